@@ -27,8 +27,8 @@ struct reader {
 
 static struct reader readers[READERS];
 static int listener = -1;
-/* How many watches there may be: of all connections together, and of each. */
-static uint64_t most_watches, most_each;
+/* What the words ask for: the limits that are told. */
+static const struct words *limits;
 /* The answer that is being made, and its length. */
 static char text[16384];
 static size_t length;
@@ -62,8 +62,10 @@ static void put_counts(void) {
     put_one("gauge", "jellqupas_unfinished_bytes", unfinished);
     put_one("gauge", "jellqupas_unread_bytes", unread());
     put_one("gauge", "jellqupas_limit_connections", places);
-    put_one("gauge", "jellqupas_limit_watches", most_watches);
-    put_one("gauge", "jellqupas_limit_watches_each", most_each);
+    put_one("gauge", "jellqupas_limit_watches", (uint64_t)limits->watches);
+    put_one("gauge", "jellqupas_limit_watches_each", (uint64_t)limits->each);
+    put_one("gauge", "jellqupas_limit_nodes", (uint64_t)limits->nodes);
+    put_one("gauge", "jellqupas_limit_sessions", (uint64_t)limits->sessions);
     for (int i = 0; i < KINDS; i++) {
         char name[64];
         snprintf(name, sizeof name, "jellqupas_%s", kinds[i]);
@@ -189,7 +191,7 @@ void metrics_open(const struct words *words) {
     unsigned port;
     struct epoll_event event = {.events = EPOLLIN, .data.u32 = METRICS};
     listener = listening_at(address, &port);
-    most_watches = (uint64_t)words->watches, most_each = (uint64_t)words->each;
+    limits = words;
     if (epoll_ctl(events, EPOLL_CTL_ADD, listener, &event)) {
         stop(3, "nothing can be waited for: %s", strerror(errno));
     }

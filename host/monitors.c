@@ -19,9 +19,8 @@
 #define VERSION "3.8.0-jellqupas-" JELLQUPAS_VERSION
 
 enum {
-    /* The ticks of the shortest and of the longest timeout of a session. */
+    /* The ticks of the shortest timeout of a session. */
     LEAST_TICKS = 2,
-    MOST_TICKS = 20,
     /* The least bytes of an answer, also of one to a greeting. */
     GREETED = 20
 };
@@ -159,7 +158,7 @@ static void tell_conf(char *said) {
     fprintf(out, "dataLogDir=%s\ndataLogSize=%llu\n", folder, bytes);
     fprintf(out, "tickTime=%ld\nmaxClientCnxns=%u\n", given->tick, places);
     fprintf(out, "minSessionTimeout=%ld\n", LEAST_TICKS * given->tick);
-    fprintf(out, "maxSessionTimeout=%ld\n", MOST_TICKS * given->tick);
+    fprintf(out, "maxSessionTimeout=%ld\n", given->longest * given->tick);
     fputs("clientPortListenBacklog=-1\nserverId=0\n", out);
 }
 

@@ -171,19 +171,20 @@ size_t front_take(uint8_t *to, size_t left) {
 
 /* Starts the child: in memory alone if no folder is named. */
 static void start_child(const struct words *words) {
-    char servers[24], tick[24], time[24], journal[24], watches[24], each[24];
-    char *program = (char *)words->program, *sync = (char *)words->sync;
     const char *folder = words->data && !strcmp(words->data, "-") ? "./-" : words->data;
-    snprintf(servers, sizeof servers, "%d", words->servers);
-    snprintf(tick, sizeof tick, "%ld", words->tick);
-    snprintf(time, sizeof time, "%llu", (unsigned long long)date());
-    snprintf(journal, sizeof journal, "%ld", words->journal);
-    snprintf(watches, sizeof watches, "%ld", words->watches);
-    snprintf(each, sizeof each, "%ld", words->each);
-    char *in_memory[] = {program, "-", tick, time, watches, each, NULL};
-    char *in_folder[] = {
-        program, (char *)folder, sync, servers, tick, time, journal, watches, each, NULL};
-    child_start(&child, folder ? in_folder : in_memory);
+    const long numbers[] = {
+        words->servers, words->journal, words->tick, (long)date(), words->watches, words->each,
+        words->nodes, words->sessions, words->longest, words->bytes, words->parts};
+    enum { COUNT = sizeof numbers / sizeof *numbers, SHARED = 2 };
+    char texts[COUNT][24], *given[COUNT + 4] = {(char *)words->program};
+    int count = 1;
+    if (folder) given[count++] = (char *)folder, given[count++] = (char *)words->sync;
+    else given[count++] = "-";
+    for (int i = folder ? 0 : SHARED; i < COUNT; i++) {
+        snprintf(texts[i], sizeof texts[i], "%ld", numbers[i]);
+        given[count++] = texts[i];
+    }
+    child_start(&child, given);
 }
 
 /* Sends the text of the logins, if there are some. */

@@ -124,12 +124,21 @@ static const char USAGE[] =
     "  --connections N          the connections that it serves at once, 1 to 1000000 (10000)\n"
     "  --watches N              the watches of all of them together, 1 to 1000000000 (1000000)\n"
     "  --watches-each N         the watches of each of them (a tenth of --watches)\n"
+    "  --nodes N                the nodes of its tree, 1 to 2097152 (1048576)\n"
+    "  --sessions N             its sessions, 1 to 1048576 (65536)\n"
+    "  --max-session TICKS      the longest timeout of a session, 2 to 1048576 ticks (20)\n"
+    "  --data-bytes N           the bytes of a node's data, 1 to 1048487 (1048487)\n"
+    "  --parts N                the parts of a multi, 1 to 1024 (1000)\n"
     "  --metrics ADDRESS:PORT   where Prometheus reads what it counts (nowhere)\n"
     "  --program PROGRAM        the program that it starts: zk_serve\n"
     "  --version, --help\n\n"
     "Without --data all is in memory. Nothing reads standard input.\n\n"
     "compact, export or stat before --data DIR: does that with the folder, and ends. Of a folder\n"
     "in use, stat and export take a copy.\n";
+
+/* The bytes of data that a client can read again: a frame has 1048575, and 88 of them are a
+   response's head, the length of the data, and the stat. */
+enum { DATA = 1048575 - 88 };
 
 static const char NO_CHAIN[] = "--servers isn't taken: this is one server, without a chain";
 
@@ -178,8 +187,8 @@ static bool is_put(const struct place *place, const char *value) {
 struct words understood(char **words) {
     struct words found = {
         .listen = "127.0.0.1:2181", .sync = "batch", .tick = 2000, .journal = 64,
-        .watches = 1000000,
-        .task = task_of(*words)};
+        .watches = 1000000, .nodes = 1048576, .sessions = 65536, .longest = 20,
+        .bytes = DATA, .parts = 1000, .task = task_of(*words)};
     /* (the first two are a task's) */
     const struct place places[] = {
         {.name = "--data", .text = &found.data}, {.name = "--program", .text = &found.program},
@@ -189,6 +198,11 @@ struct words understood(char **words) {
         {.name = "--connections", .number = &found.connections, .least = 1, .most = 1000000},
         {.name = "--watches", .number = &found.watches, .least = 1, .most = 1000000000},
         {.name = "--watches-each", .number = &found.each, .least = 1, .most = 1000000000},
+        {.name = "--nodes", .number = &found.nodes, .least = 1, .most = 2097152},
+        {.name = "--sessions", .number = &found.sessions, .least = 1, .most = 1048576},
+        {.name = "--max-session", .number = &found.longest, .least = 2, .most = 1048576},
+        {.name = "--data-bytes", .number = &found.bytes, .least = 1, .most = 1048487},
+        {.name = "--parts", .number = &found.parts, .least = 1, .most = 1024},
         {.name = "--tick", .number = &found.tick, .least = 10, .most = 3600000}};
     const struct place *const end = places + (found.task ? 2 : sizeof places / sizeof *places);
     words += found.task != NULL;

@@ -35,11 +35,12 @@ socklen_t read_address(const char *text, union address *to);
    and `servers` the number in its journal's head. `metrics` is where its counts can be read, or
    NULL. `auth` is the file of logins, or NULL: then clients need none. `connections` are served at
    once; 0 is as many as it can. There are at most so many `watches`, and so many of `each`
-   connection. `is_open` allows addresses that others reach. `task` is what is done with the folder
+   connection. The tree has at most so many `nodes` and `sessions`, a session's timeout at most
+   `longest` ticks, a node's data so many `bytes`, and a multi so many `parts`. `is_open` allows addresses that others reach. `task` is what is done with the folder
    in the place of serving, or NULL. */
 struct words {
     const char *listen, *metrics, *auth, *data, *sync, *program, *task;
-    long tick, journal, connections, watches, each;
+    long tick, journal, connections, watches, each, nodes, sessions, longest, bytes, parts;
     int servers;
     bool is_open;
 };

@@ -17,6 +17,7 @@ import proof
 import serving
 import sources
 import unproved
+import upgrading
 import usage
 import words as words_of
 from ending import Stopped, run, teller
@@ -134,6 +135,10 @@ def do(is_folder, words):
         refuse(f"{mode} takes {known}, not '{command}'")
     elif command in ("cluster", "call"):
         {"cluster": clusters, "call": calling}[command].command(words)
+    elif command == "upgrade":
+        if len(words) != 1:
+            refuse("upgrade takes FOLDER")
+        print(upgrading.upgrade(words[0]))
     elif command == "prove":
         prove(words)
     elif command == "clean" and words in ([], ["--all"]):

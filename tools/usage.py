@@ -30,6 +30,7 @@ A coordination service with ZooKeeper's data model and chain replication.
 ./zk call FILE [--client N]   plays calls over the nodes, or those of client N
 ./zk compact --data DIR       compacts a server's journal that isn't in use
 ./zk export|stat --data DIR   writes its tree as a script; says how large it is
+./zk upgrade DIR              writes the journal of an older version anew
 Without a proved program each builds one without proof, in a minute, and says so.
 
 ./zk install --prefix DIR     installs the server: it needs no toolchain there

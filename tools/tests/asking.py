@@ -11,6 +11,8 @@ BAD_PATHS = (
     b"/a\n1 delete /a any", b"/" + b"n" * 256, b"/n" * 65, b"/nnnn" * 64 * 4,
 )
 OWN = ("/zookeeper", "/zookeeper/config", "/zookeeper/quota")
+# The most bytes of data, unless a word says others.
+MOST_DATA = 1048487
 BODIES = {CREATE: create_body, GET: look_body, SET: set_body, DELETE: at_version}
 REFUSED = (
     *((NO_NODE, op, look_body("/no")) for op in (EXISTS, GET, LS, LS2)),
@@ -34,13 +36,14 @@ REFUSED = (
     *((NO_WATCHER, op, text("/a") + int4(it))
       for op in (CHECK_WATCHES, REMOVE_WATCHES) for it in (1, 2, 3)),
     (ARGUMENTS, ADD_WATCH, text(None) + int4(0)), (ARGUMENTS, REMOVE_WATCHES, text("a") + int4(3)),
-    (UNIMPLEMENTED, SET_ACL, text("/a") + acl() + int4(-1)),
     (NO_NODE, CONTAINER, create_body("/no/a", kind=OF_CHILDREN)),
     *((ARGUMENTS, CREATE, create_body("/x", kind=kind)) for kind in (7, -1, 5, 6)),
     *((ARGUMENTS, CREATE_TTL, create_body("/x", kind=TTL, ttl=it)) for it in (0, -1, 1 << 62)),
-    (ARGUMENTS, CREATE, create_body("/x", b"x" * 65537)), (ARGUMENTS, DELETE, at_version("/")),
+    (ARGUMENTS, CREATE, create_body("/x", b"x" * (MOST_DATA + 1))),
+    (ARGUMENTS, SET, set_body("/a", b"x" * (MOST_DATA + 1))), (ARGUMENTS, DELETE, at_version("/")),
     (ARGUMENTS, CREATE, create_body("/" + "n" * 255, kind=SEQUENTIAL)),
-    (ARGUMENTS, MULTI, multi_body(*[(CHECK, at_version("/a"))] * 65)),
+    (ARGUMENTS, MULTI, multi_body(*[(CHECK, at_version("/a"))] * 1001)),
+    (ARGUMENTS, MULTI_READ, multi_body(*[(LS, look_body("/a"))] * 1001)),
     *((ARGUMENTS, op, body(it)) for it in BAD_PATHS for op, body in BODIES.items()),
 )
 
@@ -271,9 +274,55 @@ def sessions(builds):
             want(short.is_ended(), "its connection is closed")
 
 
+def acls(builds):
+    """Writes of a node's ACL: they count in its stat, and change nothing else."""
+    with Server(builds) as server, server.client() as it, server.client() as other:
+        it.create("/a", b"hi")
+        stat = it.exists("/a", True)
+        for version in (0, 1, -1):
+            zxid = it.zxid
+            stat = stat._replace(aversion=stat.aversion + 1)
+            body = text("/a") + acl() + int4(version)
+            want_same(it.call(SET_ACL, body, Reader.stat), stat, f"at version {version}")
+            want_same((it.zxid, other.exists("/a")), (zxid + 1, stat), "what another client sees")
+            found = other.ask(GET_ACL, text("/a")).body
+            want_same((found[: len(acl())], Reader(found[len(acl()) :]).stat()), (acl(), stat), "ACL")
+        zxid = it.zxid
+        for code, path, given, version in (
+            (VERSION, "/a", acl(), 2), (VERSION, "/a", acl(), -2), (ACL, "/a", acl(1), 3),
+            (NO_NODE, "/no", acl(), -1), (ARGUMENTS, "a", acl(), -1), (ARGUMENTS, OWN[0], acl(), 0),
+        ):
+            found = it.ask(SET_ACL, text(path) + given + int4(version))
+            want_same(found[2:], (code, b""), f"{path} at version {version}")
+        want_same((it.zxid, it.exists("/a"), it.events()), (zxid, stat, []), "nothing else changes")
+
+
+def chosen(builds):
+    """Each limit that its word names, and the largest data that can be read again."""
+    given = ("--nodes=5", "--sessions=2", "--max-session=30", "--data-bytes=10", "--parts=3")
+    with Server(builds, words=given) as server, server.client(timeout=10**9) as it, \
+            server.client(timeout=1) as other:
+        want_same((it.timeout, other.timeout), (60000, 4000), "the timeouts of sessions")
+        want(not server.serves(), "a third session")
+        for number in range(4):
+            it.create(f"/n{number}", b"0123456789")
+        want_same(refused(it.create, "/n4"), SYSTEM, "a fifth node below the root")
+        want_same(refused(it.set, "/n0", b"01234567890"), ARGUMENTS, "eleven bytes")
+        for code, count in ((OK, 3), (ARGUMENTS, 4)):
+            check, look = (CHECK, at_version("/n0")), (LS, look_body("/"))
+            for op, part in ((MULTI, check), (MULTI_READ, look)):
+                want_same(it.ask(op, multi_body(*[part] * count)).code, code, f"{count} parts")
+    with Server(builds) as server, server.client() as it:
+        data = b"x" * MOST_DATA
+        it.create("/" + "a" * 8)
+        for path, write in (("/" + "a" * 8, it.set), ("/b", it.create)):
+            write(path, data)
+            want_same(it.get(path)[0], data, f"all that may be in {path}")
+
+
 def limits(builds):
     """Nodes, the depth of a path, watches and sessions that are too many."""
-    given = ("--watches=1000", "--watches-each=600")
+    given = ("--watches=1000", "--watches-each=600", "--nodes=4096", "--sessions=1024")
     # (a tick so long that no session ends while others begin)
     with Server(builds, tick=600000, words=given) as server, server.client() as it, \
             server.client() as other:

@@ -9,8 +9,8 @@ from servers import Server, free_port, new_folder
 
 SOURCES = ("tools/tests/c_client.c", "tools/tests/c_client_more.c")
 HEADER, SECONDS, TRIALS = "/usr/include/zookeeper/zookeeper.h", 120, 23
-# These ask for what isn't here: null data, setACL, getConfig, and a container's owner that is 0.
-LACKING = {"null", "set_acl"}
+# This asks for what isn't here: null data.
+LACKING = {"null"}
 
 
 def compiled(builds):

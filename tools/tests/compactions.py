@@ -3,7 +3,7 @@ import os
 
 import serving
 from report import Test, want, want_same
-from servers import Server, ended, new_folder, program
+from servers import PROFILE, Server, ended, new_folder, program
 
 # A journal that is compacted from a MiB on, and bytes by which a change makes it longer.
 SHORT, MIB, PAD = ("--journal", "1"), 1 << 20, b" " * 20000
@@ -25,7 +25,7 @@ class Full:
             file.write(b"none" * takes_none)
 
     def server(self):
-        words = ("--program", self.program, *SHORT)
+        words = ("--program", self.program, *SHORT, *PROFILE)
         return Server(self.builds, self.folder, words, sync="batch")
 
     def size(self):

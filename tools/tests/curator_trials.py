@@ -14,8 +14,6 @@ NEEDED = (
 )
 HELPFUL = ("netty-all", "metrics-core", "snappy-java")
 TRIALS = 63
-# This asks for what isn't here: setACL.
-LACKING = {"acl"}
 
 
 def with_curator():
@@ -43,9 +41,8 @@ def curator(builds, tally):
         want(not status, said)
         failed = failures(path, folder, server)
         # (their waits are of seconds, so a busy machine may fail some: these are run once more)
-        if again := [it for it in failed if it not in LACKING]:
-            failed = failures(path, folder, server, *again)
-    for name, why in failed.items():
-        if name not in LACKING:
-            tally.fails("curator", why)
-    tally.passes(TRIALS - len(LACKING) - len(set(failed) - LACKING))
+        if failed:
+            failed = failures(path, folder, server, *failed)
+    for why in failed.values():
+        tally.fails("curator", why)
+    tally.passes(TRIALS - len(failed))

@@ -12,9 +12,10 @@ import time
 
 import compactions
 import mending
+import sources
 from frames import *
 from report import Failed, Test, want, want_same
-from servers import Server, ended, new_folder, program, serving, until, words_of
+from servers import PROFILE, Server, ended, new_folder, program, serving, until, words_of
 from wire import NO_SESSION, Ended, greeted, refused
 
 LIVES = 10
@@ -25,6 +26,20 @@ TASKS, FILES = ("compact", "export", "stat"), ["journal", "secret"]
 # A journal of an earlier version, with 3 in its head: a session, its password, and a node.
 OF_BEFORE = ("AWplbGxxdXBhcyBqb3VybmFsIAEDICAgICAgICAgICAgAAEwNjdkMGI5ZkFBRUNBd1FGQmdjSUNRb0xEQTB"
              "PRHhBPQpBUVFBQUFBQUFBQUFCZz09CgABM2Q2YjA1YjNBUUFBQUFBQ0wyRUFBQUFBQW1ocAoAAA==")
+# A journal of an older version: a snapshot with two nodes and a session, and changes after it.
+OF_OLDER = (
+    "AWplbGxxdXBhcyBqb3VybmFsIAIBdHJlZSBvZiB6ayAgAAFkZTQxODZhMkJRQUFBQ2dBQUFBa0FBQUFBQUFBQUFBQUFB"
+    "QUFBQUFBQVFBQUFBQUFBQUFFQUFBQUFRQUFBQUlBQUFBQQpCUUFBQUYwQUFBQlpBQUFBQVM4QUFBQUFBQUFBQUFBQUFB"
+    "QUFBQUFBQUFBQUFBQUFBQUlBQUFBQUFBQUFBQUFBQUFBQUFBQUFBQUFBQUFBQUFBQUFBQUFBQUFBQUFRQUFBQUFBQUFB"
+    "QUFBQUFBQUFBQUFBQUFBQUFBQUFBQUFBQUFBQT0KQlFBQUFCMEFBQUFaQUFBQUFBQUFBQUVBQUFBQUFBQUFBQlFBQUFB"
+    "QUFBQUFGUT09CkJRQUFBR0FBQUFCY0FBQUFBaTloQUFBQUFBQUFBQUlBQUFBQUFBQUFCQUFBQUFBQUFBQURBQUFBQUFB"
+    "QUFBRUFBQUFBQUFBQUFRQUFBQUFBQUFBQkFBQUFBQUFBQUFFQUFBQUFBQUFBQUFBQUFBQUFBQUFBQUFBQUFBQUFBQUFB"
+    "QUFBQ2FHaz0KQlFBQUFHUUFBQUJnQUFBQUJDOWhMMlVBQUFBQUFBQUFBd0FBQUFBQUFBQURBQUFBQUFBQUFBTUFBQUFB"
+    "QUFBQUFRQUFBQUFBQUFBQkFBQUFBQUFBQUFBQUFBQUFBQUFBQUFBQUFBQUFBQUFCQUFBQUFBQUFBQUFBQUFBQUFBQUFB"
+    "QUFBQUFSdGFXNWwKAAFiMzZmOGMyNEFRVUFBQUFBQUFBQUFRPT0KQVFjPQoAATJiMDA5MDViQVFRQUFBQUFBQUFBRkE9"
+    "PQoAATQxMjU5NjFiQVFJQUFBQUNMMkVBQUFBQUFtaHYKAAFiYmZhOWU0ZUFRQUFBQUFDTDJJQUFBQUFCbUpsYUdsdVpB"
+    "PT0KAAA="
+)
 # A command after which a file has at most 65,536 bytes.
 LIMITED = ("sh", "-c", 'trap "" XFSZ; ulimit -f 128; exec "$0" "$@"')
 
@@ -167,7 +182,7 @@ def of_before(builds):
     with open(f"{folder}/journal", "wb") as file:
         file.write(base64.b64decode(OF_BEFORE))
     for has_note, version in ((True, 1), (False, 2)):
-        with Server(builds, folder) as server, server.client() as it:
+        with Server(builds, folder, PROFILE) as server, server.client() as it:
             want_same(it.get("/a")[0], b"hi", "its node")
             want_same(note in server.said(), has_note, "the note")
             it.session = 1
@@ -175,6 +190,63 @@ def of_before(builds):
         with open(f"{folder}/journal", "rb") as file:
             want_same(file.read()[19], version, "the version of its journal")
         want_same(at_rest(builds, folder, "compact", 3)[0], 0, "compact")
+
+
+def of_older(builds):
+    """A folder of an older version is refused, and says how it is upgraded. Then it is as it was."""
+    folder, zk = new_folder(builds), f"{sources.ROOT}/zk"
+    os.mkdir(folder)
+    older = base64.b64decode(OF_OLDER)
+    with open(f"{folder}/journal", "wb") as file:
+        file.write(older)
+    for task in ("serve", *TASKS):
+        said = "zk: data: a folder of an older version: ./zk upgrade FOLDER\n"
+        want_same(at_rest(builds, folder, task), (3, "", said), task)
+    upgrade = lambda: ended([zk, "upgrade", folder])
+    with open(f"{folder}/journal", "rb") as file:
+        fcntl.flock(file, fcntl.LOCK_EX)
+        want_same(upgrade()[0], 3, "a folder in use")
+    status, out, said = upgrade()
+    want((status, out.count("\n"), said) == (0, 1, ""), f"{status} {out} {said}")
+    with open(f"{folder}/journal.old", "rb") as file:
+        want_same(file.read(), older, "the old file")
+    with Server(builds, folder) as server, server.client() as it:
+        found = [it.get(path)[0] for path in ("/a", "/b", "/a/e")]
+        want_same(found, [b"ho", b"behind", b"mine"], "its nodes")
+        want_same((it.exists("/a").version, it.exists("/a").aversion), (2, 0), "versions")
+        want_same(it.exists("/a/e").owner, 1, "its session")
+    want_same(upgrade()[0], 3, "one of this version")
+
+
+def other_limits(builds):
+    """Other limits at a restart. A folder that needs more says of what, and how much."""
+    folder, size = new_folder(builds), lambda: os.path.getsize(f"{folder}/journal")
+    few = ("--nodes=10", "--sessions=3", "--max-session=30")
+    with Server(builds, folder, few) as server, server.client(timeout=10**9) as it:
+        for number in range(9):
+            it.create(f"/n{number}")
+        want_same(refused(it.create, "/n"), SYSTEM, "a node too many")
+        want_same(it.timeout, 60000, "the longest timeout")
+        for number in range(2):
+            server.client()
+    for word, needed in (("nodes", 10), ("sessions", 3), ("max-session", 30)):
+        given = {"nodes": 10, "sessions": 3, "max-session": 30} | {word: needed - 1}
+        words = [f"--{name}={count}" for name, count in given.items()]
+        with open(f"{folder}/journal", "rb") as file:
+            before = file.read()
+        said = f"zk: data: it needs --{word} {needed} or more\n"
+        want_same(ended([*words_of(builds, folder, "batch"), *words]), (3, "", said), word)
+        with open(f"{folder}/journal", "rb") as file:
+            want_same(file.read(), before, f"the file after too few {word}")
+    for words, count in ((few, 0), (("--nodes=11", *few[1:]), 1), (few[2:], 5)):
+        with Server(builds, folder, words) as server, server.client(of=it) as again:
+            want_same(again.session, it.session, "the session lives on")
+            for number in range(count):
+                again.create(f"/m{number}-{count}")
+            found = refused(again.create, "/more")
+            want_same(found, None if words == few[2:] else SYSTEM, f"with {words}")
+        want_same(at_rest(builds, folder, "compact")[0], 0, "compact")
+    want(size() < 10000, f"{size()} bytes")
 
 
 def shortening(builds):
@@ -349,8 +421,8 @@ def synced(builds):
 
 
 def tests(builds):
-    each = (restart, secret, of_before, shortening, export, copies, renewed, not_opened,
-            full_disk, synced)
+    each = (restart, secret, of_before, of_older, other_limits, shortening, export, copies,
+            renewed, not_opened, full_disk, synced)
     found = [Test(f"folder: {it.__name__}", 8, lambda _, it=it: it(builds)) for it in each]
     found += mending.tests(builds) + compactions.tests(builds)
     return found + [Test(f"folder: {LIVES} kills, {it}", 30, lambda _, it=it: kills(builds, it))

@@ -23,8 +23,6 @@ LACKING = {
         " TestAuthentication.test_unicode_auth TestClient.test_create_makepath_incompatible_acls"
         " TestClient.test_get_acls TestClient.test_set_acls TestClientTransactions.test_default_acl"
     ),
-    "an open ACL that is listed twice": "TestClient.test_create_acl_duplicate",
-    "data of 512 KiB": "TestClient.test_create_large_value",
     "null data": "TestClient.test_create_null_data TestClient.test_set_null_data",
     "a name that is a counter alone": "TestClient.test_create_sequence",
     "Unicode": "TestClient.test_create_unicode_path",

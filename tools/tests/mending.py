@@ -6,11 +6,13 @@ import subprocess
 import serving
 from builds import ENVIRONMENT, ended
 from report import Test, want, want_same
-from servers import Server, new_folder, program
+from servers import PROFILE, Server, new_folder, program
 from wire import Ended, until
 
 # (what a server is sent first: a secret, and that there are no logins)
 BLOCKS, PAIRS, SECRET = 20, 20, b"s" * 32 + b"\0"
+# The words of a server behind its folder: the mode, the journal's, and those of PROFILE.
+SERVES = "batch 1 1000 2000 64 9 9 4096 1024 20 1000 64".split()
 # What each byte is changed to.
 CHANGES = (lambda it: it ^ 1, lambda it: 0, lambda it: 1, lambda it: 255, lambda it: (it + 1) % 256)
 ANEW = "zk: data: the disk failed before: the journal is written anew\n"
@@ -24,7 +26,7 @@ def report_of(held, at, place):
 
 def do(builds, folder, task="serve", servers=1, wrap=()):
     """How a task on a folder ended, or a server that had its secret and no message."""
-    words = {"serve": "batch 1 2000 1000 64 9 9".split()}.get(task, [task, str(servers)])
+    words = {"serve": SERVES}.get(task, [task, str(servers)])
     return ended([*wrap, builds.program(serving.PROGRAM), folder, *words], input=SECRET.decode())
 
 
@@ -41,7 +43,7 @@ def write(path, held):
 def made(builds, blocks):
     """A folder with so many nodes, its journal's bytes, where its blocks are, and what is after."""
     folder, found, at = new_folder(builds), [], 34
-    with Server(builds, folder) as server, server.client() as it:
+    with Server(builds, folder, PROFILE) as server, server.client() as it:
         for number in range(blocks):
             it.create(f"/{number}")
     held = bytes_of(f"{folder}/journal")
@@ -124,7 +126,7 @@ def pairs(builds):
     """Two starts at once on a folder that isn't there: one finds it in use."""
     pipe, wanted = subprocess.PIPE, [(0, b""), (3, b"zk: data: the folder is in use\n")]
     for _ in range(PAIRS):
-        words = [builds.program(serving.PROGRAM), new_folder(builds), "batch", *"1 9 9 9 9 9".split()]
+        words = [builds.program(serving.PROGRAM), new_folder(builds), *SERVES]
         two = [subprocess.Popen(words, stdin=pipe, stdout=pipe, stderr=pipe, env=ENVIRONMENT)
                for _ in range(2)]
         # (each opens the folder once it has the secret, and has it until its input ends)
@@ -198,7 +200,8 @@ def failed_server(builds):
     folder = new_folder(builds)
     wrap, faults = with_faults(builds, folder)
     text = f'exec {" ".join(wrap)} {builds.program(serving.PROGRAM)} "$@"'
-    server = Server(builds, folder, ("--program", program(builds, text)), sync="batch")
+    words = ("--program", program(builds, text), *PROFILE)
+    server = Server(builds, folder, words, sync="batch")
     it, mark = server.client(), f"{folder}/journal.failed"
     it.create("/a", b"x")
     write(faults, b"0")
@@ -214,7 +217,7 @@ def failed_server(builds):
     status, _, said = do(builds, folder)
     want((status, os.path.exists(mark)) == (4, True) and ANEW in said, f"not anew: {said}")
     os.rmdir(f"{folder}/journal.new")
-    with Server(builds, folder) as server, server.client() as it:
+    with Server(builds, folder, PROFILE) as server, server.client() as it:
         want(ANEW in server.said() and it.get("/a")[0] == b"x", "it is there")
     # (the change in flight was cut off, and isn't there)
     want_same(sorted(os.listdir(folder)), ["journal", "journal.cut", "secret"], "the files")

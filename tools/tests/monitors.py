@@ -16,16 +16,20 @@ MOST, FLEET, LONGEST = 10000, 1000, 2**31 - 1
 # A client's line, and a version, as readers of ZooKeeper's `stat` find them.
 CLIENT = re.compile(r"/(\[?[:.\da-fA-F]*\]?):(\d+)\[(\d+)\]\((.*)\)")
 VERSION = re.compile(r".*: (\d+\.\d+\.\d+)-.*")
-# What collectd's plugin and others read of `mntr`; the tree's own counts aren't told.
+# What collectd's plugin and others read of `mntr`.
 COUNTS = (
     "zk_avg_latency", "zk_min_latency", "zk_max_latency", "zk_packets_received", "zk_packets_sent",
     "zk_num_alive_connections", "zk_outstanding_requests", "zk_global_sessions", "zk_watch_count",
+    "zk_znode_count", "zk_ephemerals_count", "zk_approximate_data_size",
     "zk_open_file_descriptor_count", "zk_max_file_descriptor_count", "zk_uptime",
     "zk_connection_rejected", "zk_bytes_received_count", "zk_max_connections",
     "zk_strangers_refused", "zk_journal_bytes",
     "zk_compacted_journal_bytes",
 )
-STATE = ("latency min/avg/max", "received", "sent", "connections", "outstanding", "zxid", "mode")
+STATE = (
+    "latency min/avg/max", "received", "sent", "connections", "outstanding", "zxid", "mode",
+    "node count",
+)
 TOLD_COMPACTION = re.compile(r"zk: the journal was compacted: (\d+) bytes before, (\d+) after, ")
 
 
@@ -63,6 +67,7 @@ def monitors(builds):
         numbers = {name: float(found[name]) for name in COUNTS}
         for name, wanted in (
             ("zk_num_alive_connections", 3), ("zk_global_sessions", 2), ("zk_watch_count", 2),
+            ("zk_znode_count", 2), ("zk_ephemerals_count", 0), ("zk_approximate_data_size", 0),
             ("zk_packets_received", 6), ("zk_packets_sent", 5), ("zk_outstanding_requests", 0),
             ("zk_max_connections", MOST), ("zk_journal_bytes", os.path.getsize(f"{folder}/journal")),
         ):

@@ -33,6 +33,8 @@ BAD_WORDS = (
     "frob", "--frob", "--servers", "--servers 3", "--servers=1", "--program=", "--tick 9",
     f"--tick {'9' * 20}", "--tick 1e3", "--sync often", "--journal 0", "--listen", "--data ",
     "--tick 2000 ", "--connections 0", "--watches 0", "--watches 9 --watches-each 10",
+    "--nodes 0", "--nodes 2097153", "--sessions 0", "--sessions 1048577", "--max-session 1",
+    "--max-session 1048577", "--data-bytes 0", "--data-bytes 1048488", "--parts 0", "--parts 1025",
     *(f"--listen {it}" for it in (
         "2181", "127.0.0.1", "127.0.0.1:", ":1", "127.0.0.1:65536", "127.0.0.1:-1", "999.0.0.1:1",
         "somewhere:1", "::1:2181", "[::g]:1", "[]:1", "1" * 999 + ":1")),
@@ -96,7 +98,8 @@ def metrics(builds):
     port = free_port()
     given = ("--metrics", f"127.0.0.1:{port}")
     with Server(builds, words=given) as server, server.client() as it:
-        it.create("/a")
+        it.create("/a", b"hi")
+        it.create("/e", b"own", EPHEMERAL)
         it.exists("/a", True)
         with urllib.request.urlopen(f"http://{given[1]}/metrics", timeout=30) as found:
             kind, text = found.headers["Content-Type"], found.read().decode()
@@ -104,7 +107,10 @@ def metrics(builds):
         told = dict(line.split() for line in text.splitlines() if not line.startswith("#"))
         for name, wanted in (("zk_watch_count", "1"), ("zk_num_alive_connections", "1"),
                              ("jellqupas_connections_accepted", "2"),
-                             ("jellqupas_packets_received", "4")):
+                             ("jellqupas_packets_received", "5"), ("zk_znode_count", "3"),
+                             ("zk_ephemerals_count", "1"), ("zk_approximate_data_size", "5"),
+                             ("jellqupas_limit_nodes", "1048576"),
+                             ("jellqupas_limit_sessions", "65536")):
             want_same(told[name], wanted, name)
         with socket.create_connection(("127.0.0.1", port), timeout=30) as other:
             other.sendall(b"GET / HTTP/1.1\r\n\r\n")
@@ -313,8 +319,9 @@ def drill(builds):
 
 EACH = (
     asking.limits, asking.sessions, clock, drill, many, readers, silence, words, asking.requests,
-    asking.watches, asking.persistent, asking.walks, asking.own_nodes, hostile.frames, addresses,
-    ends, four_letters, metrics, secrets, late, unfinished, chunks, lifetimes.timeouts,
+    asking.watches, asking.persistent, asking.walks, asking.acls, asking.chosen, asking.own_nodes,
+    hostile.frames, addresses, ends, four_letters, metrics, secrets, late, unfinished, chunks,
+    lifetimes.timeouts,
     *monitors.EACH, *logins.EACH
 )
 

@@ -14,6 +14,8 @@ from wire import Client, Ended, until
 
 # The last line that a server says before it serves.
 LAST = re.compile(r"zk: (?:anyone who can connect|calls are made by who gives) .*\n")
+# The limits of the profile. With them a new folder's journal has no snapshot.
+PROFILE = ("--nodes=4096", "--sessions=1024")
 NOTED = re.compile(
     r"zk: (?:a batch took|a connection is|metrics at|the journal was|.* s so far"
     r"|refused a connection).*\n")

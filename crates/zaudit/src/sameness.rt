@@ -3,8 +3,8 @@
 ghost use Rattle.std.specs.Prelude.{◌≡◌, true, false};
 
 use zcalls::{
-    Call, Check, Create, Delete, Multi, Names, Part, PartReply, Query, Replies, Reply, SetData,
-    Update,
+    Call, Check, Create, Delete, Multi, Names, Part, PartReply, Query, Replies, Reply, SetAcl,
+    SetData, Update,
 };
 use zpath::{Name, Path};
 use zprotocol::world::CallEvent;
@@ -52,6 +52,13 @@ fn is_same_set(a: &SetData, b: &SetData) -> bool
     is_same_path(&a.path, &b.path) && is_same_data(&a.bytes, &b.bytes) && a.version == b.version
 }
 
+fn is_same_set_acl(a: &SetAcl, b: &SetAcl) -> bool
+    ensures yes { result ≡ true → a.now ≡ b.now }
+    ensures no { result ≡ false → a.now ≡ b.now → ⊥ }
+{
+    is_same_path(&a.path, &b.path) && a.version == b.version
+}
+
 fn is_same_check(a: &Check, b: &Check) -> bool
     ensures yes { result ≡ true → a.now ≡ b.now }
     ensures no { result ≡ false → a.now ≡ b.now → ⊥ }
@@ -95,6 +102,7 @@ fn is_same_update(a: &Update, b: &Update) -> bool
         (Update::Create(a), Update::Create(b)) => is_same_create(a, b),
         (Update::Delete(a), Update::Delete(b)) => is_same_delete(a, b),
         (Update::SetData(a), Update::SetData(b)) => is_same_set(a, b),
+        (Update::SetAcl(a), Update::SetAcl(b)) => is_same_set_acl(a, b),
         (Update::Multi(a), Update::Multi(b)) => are_same_parts(a.as_slice(), b.as_slice()),
         (Update::Open(a), Update::Open(b)) => a == b,
         (Update::Ping(a), Update::Ping(b)) => a == b,

@@ -10,19 +10,22 @@ use Rattle.zpath.specs.Grammar.{path_cmp}
 use Rattle.zpath.proofs.First.{no_test_holds}
 use Rattle.ztree.specs.declared.term.Term.{Term}
 use Rattle.ztree.specs.declared.term.Term.TheVariants.{Unlimited}
+use Rattle.ztree.specs.declared.limits.TreeLimits.{TreeLimits}
 use Rattle.ztree.specs.declared.node.Node.{Node}
 use Rattle.ztree.specs.declared.session.Session.{Session}
-use Rattle.ztree.specs.Tree.{opening_tree, Tree, Nodes, Path, new_node, parent_of, with_change_at, with_child, without_child, with_data, with_node, without_node, with_data_at, with_next_zxid}
+use Rattle.ztree.specs.Tree.{opening_within, Tree, Nodes, Path, new_node, parent_of, with_change_at, with_child, without_child, with_data, with_acl, with_node, without_node, with_data_at, with_acl_at, with_next_zxid}
 use Rattle.ztree.specs.Room.{HasRoom}
 use Rattle.ztree.proofs.Sorted.{paths_total}
+use Rattle.zcalls.specs.declared.limits.TheConstants.{MAX_RAISES}
 use Rattle.zcalls.specs.declared.call.Part.{Part}
+use Rattle.zcalls.specs.declared.call.SetAcl.{SetAcl as ToSetAcl}
 use Rattle.zcalls.specs.declared.change.Change.{Change}
 use Rattle.zcalls.specs.declared.change.Change.TheVariants.{Create, Delete, SetData}
-use Rattle.zcalls.specs.Part.{change_step, part_step, create_refusals, made_path, owner_of, term_of, is_spent, node_has}
+use Rattle.zcalls.specs.Part.{change_step, acl_step, part_step, create_refusals, made_path, owner_of, term_of, is_spent, node_has}
 use Rattle.ztree.specs.Lawful.{AllNodes, AllSessions}
 use Rattle.zcalls.specs.Bounds.{IsWithin, IsBounded, IsGranted}
 use Rattle.zcalls.specs.support.Alone.{ChangesNodesAlone}
-use Rattle.zcalls.proofs.Leaving.{Leaves, create_step-leaves, delete_step-leaves, set_step-leaves, part_step-leaves}
+use Rattle.zcalls.proofs.Leaving.{Leaves, create_step-leaves, delete_step-leaves, set_step-leaves, acl_step-leaves, part_step-leaves}
 use Rattle.zcalls.proofs.Paths.{parent_of-made}
 
 module _ (P : Node → Type 0) where
@@ -54,26 +57,29 @@ all_changed Q P nodes path f all others changed = by (finite.get nodes path) ref
     by (Some n) e = all_insert P nodes path (f n) same (changed n e)
 
 pub within_more : (k m : ℕ) (n : Node) → k ≤ m → IsWithin k n → IsWithin m n
-within_more k m n more h = record { version = omega (arith, more, h.version); cversion = omega (arith, more, h.cversion); seq = h.seq }
+within_more k m n more h = record { version = omega (arith, more, h.version); cversion = omega (arith, more, h.cversion); aversion = omega (arith, more, h.aversion); seq = h.seq }
 
 later : (k : ℕ) (n : Node) → IsWithin k n → IsWithin (k + 1) n
-later k n h = record { version = omega (arith, h.version); cversion = omega (arith, h.cversion); seq = h.seq }
+later k n h = record { version = omega (arith, h.version); cversion = omega (arith, h.cversion); aversion = omega (arith, h.aversion); seq = h.seq }
 
 pub has_room : (k : ℕ) (n : Node) → k + 1 < 2 ^ 62 → IsWithin k n → HasRoom n
-has_room k n few h = (omega (arith, few, h.version), omega (arith, few, h.cversion), omega (arith, h.seq))
+has_room k n few h = (omega (arith, few, h.version), omega (arith, few, h.cversion), omega (arith, h.seq), omega (arith, few, h.aversion))
 
 with_child_within : (k z : ℕ) (sequential : Bool) (n : Node) → IsWithin k n → (sequential ≡ true → n.seq ≤ 2147483647) → IsWithin (k + 1) (with_child z sequential n)
-with_child_within k z true n h unspent = record { version = omega (arith, h.version); cversion = omega (arith, h.cversion); seq = let left = unspent refl in omega (arith, left) }
-with_child_within k z false n h unspent = record { version = omega (arith, h.version); cversion = omega (arith, h.cversion); seq = omega (arith, h.seq) }
+with_child_within k z true n h unspent = record { version = omega (arith, h.version); cversion = omega (arith, h.cversion); aversion = omega (arith, h.aversion); seq = let left = unspent refl in omega (arith, left) }
+with_child_within k z false n h unspent = record { version = omega (arith, h.version); cversion = omega (arith, h.cversion); aversion = omega (arith, h.aversion); seq = omega (arith, h.seq) }
 
 new_within : (k : ℕ) (bytes : List ℕ) (owner : ℕ) (term : Term) (z time : ℕ) → IsWithin k (new_node bytes owner term z time)
-new_within k bytes owner term z time = record { version = omega arith; cversion = omega arith; seq = omega arith }
+new_within k bytes owner term z time = record { version = omega arith; cversion = omega arith; aversion = omega arith; seq = omega arith }
 
 without_child_within : (k z : ℕ) (n : Node) → IsWithin k n → IsWithin (k + 1) (without_child z n)
-without_child_within k z n h = record { version = omega (arith, h.version); cversion = omega (arith, h.cversion); seq = h.seq }
+without_child_within k z n h = record { version = omega (arith, h.version); cversion = omega (arith, h.cversion); aversion = omega (arith, h.aversion); seq = h.seq }
 
 with_data_within : (k : ℕ) (bytes : List ℕ) (z time : ℕ) (n : Node) → IsWithin k n → IsWithin (k + 1) (with_data bytes z time n)
-with_data_within k bytes z time n h = record { version = omega (arith, h.version); cversion = omega (arith, h.cversion); seq = h.seq }
+with_data_within k bytes z time n h = record { version = omega (arith, h.version); cversion = omega (arith, h.cversion); aversion = omega (arith, h.aversion); seq = h.seq }
+
+with_acl_within : (k : ℕ) (n : Node) → IsWithin k n → IsWithin (k + 1) (with_acl n)
+with_acl_within k n h = record { version = omega (arith, h.version); cversion = omega (arith, h.cversion); aversion = omega (arith, h.aversion); seq = h.seq }
 
 -- the node at a path, where it takes a number, has one left
 abbrev pub IsUnspent : Nodes → Path → Bool → Type 0
@@ -112,6 +118,9 @@ written_within k t path bytes all =
     all_changed (IsWithin k) (IsWithin (k + 1)) t.nodes path (with_data bytes (t.zxid + 1) t.time)
     all (later k) (λ n e. with_data_within k bytes (t.zxid + 1) t.time n (all path n e))
 
+acl_within : (k : ℕ) (t : Tree) (path : Path) → AllNodes (IsWithin k) t.nodes → AllNodes (IsWithin (k + 1)) (with_acl_at t path).nodes
+acl_within k t path all = all_changed (IsWithin k) (IsWithin (k + 1)) t.nodes path with_acl all (later k) (λ n e. with_acl_within k n (all path n e))
+
 -- in a tree every node was raised at most so often
 abbrev pub IsWithinAll : ℕ → Tree → Type 0
 IsWithinAll k t = AllNodes (IsWithin k) t.nodes
@@ -127,6 +136,9 @@ change_roomy k t client (Create create) all =
 change_roomy k t client (Delete delete) all = delete_step-leaves (IsWithinAll (k + 1)) t delete (λ e. dropped_within k t delete.path all)
 change_roomy k t client (SetData set) all = set_step-leaves (IsWithinAll (k + 1)) t set (written_within k t set.path set.bytes all)
 
+pub acl_roomy : (k : ℕ) (t : Tree) (set : ToSetAcl) → IsWithinAll k t → Leaves (IsWithinAll (k + 1)) (acl_step t set)
+acl_roomy k t set all = acl_step-leaves (IsWithinAll (k + 1)) t set (acl_within k t set.path all)
+
 pub part_roomy : (k : ℕ) (t : Tree) (client : ℕ) (part : Part) → IsWithinAll k t → Leaves (IsWithinAll (k + 1)) (part_step t client part)
 part_roomy k t client part all =
     part_step-leaves (IsWithinAll (k + 1)) t client part
@@ -134,23 +146,24 @@ part_roomy k t client part all =
     (λ path n e. later k n (all path n e))
 
 -- a session that was granted stays so
-pub granted_more : (low high id : ℕ) (s : Session) → low ≤ high → IsGranted low id s → IsGranted high id s
-granted_more low high id s more h = record { before = omega (arith, more, h.before); least = h.least; most = h.most }
+pub granted_more : (greatest low high id : ℕ) (s : Session) → low ≤ high → IsGranted greatest low id s → IsGranted greatest high id s
+granted_more greatest low high id s more h = record { before = omega (arith, more, h.before); least = h.least; most = h.most }
 
--- a change that raised each node at most 4,096 times, and opened no session, leaves room for the next
-module _ (t u : Tree) (k : ℕ) (bounded : IsBounded t) (room : t.zxid + 1 < 2 ^ 40) (few : k ≤ 4096 * t.zxid + 4096) (same : u.zxid ≡ t.zxid) (all : AllNodes (IsWithin k) u.nodes) where
+-- a change that raised each node at most `MAX_RAISES` times, and opened no session, leaves room for
+-- the next
+module _ (t u : Tree) (k : ℕ) (bounded : IsBounded t) (room : t.zxid + 1 < 2 ^ 40) (few : k ≤ MAX_RAISES * t.zxid + MAX_RAISES) (same : u.zxid ≡ t.zxid) (held : u.limits ≡ t.limits) (all : AllNodes (IsWithin k) u.nodes) where
   pub still_bounded : u.time < 2 ^ 40 → ((id : ℕ) (s : Session) → finite.get u.sessions id ≡ Some s → finite.get t.sessions id ≡ Some s) → IsBounded (with_next_zxid u)
   still_bounded early old =
       record {
         zxid = rw same room;
         time = early;
-        counters = λ path n e. within_more k (4096 * (u.zxid + 1)) n (omega (arith, few, same)) (all path n e);
-        sessions = λ id s e. granted_more t.zxid (u.zxid + 1) id s (omega (arith, same)) (bounded.sessions id s (old id s e));
+        counters = λ path n e. within_more k (MAX_RAISES * (u.zxid + 1)) n (omega (arith, few, same)) (all path n e);
+        sessions = λ id s e. rw held (granted_more t.limits.timeout t.zxid (u.zxid + 1) id s (omega (arith, same)) (bounded.sessions id s (old id s e)));
       }
 
-pub raised_bounded : (t u : Tree) (k : ℕ) → IsBounded t → t.zxid + 1 < 2 ^ 40 → k ≤ 4096 * t.zxid + 4096 → ChangesNodesAlone t u → AllNodes (IsWithin k) u.nodes → IsBounded (with_next_zxid u)
+pub raised_bounded : (t u : Tree) (k : ℕ) → IsBounded t → t.zxid + 1 < 2 ^ 40 → k ≤ MAX_RAISES * t.zxid + MAX_RAISES → ChangesNodesAlone t u → AllNodes (IsWithin k) u.nodes → IsBounded (with_next_zxid u)
 raised_bounded t u k bounded room few same all =
-    still_bounded t u k bounded room few same.zxid all (rw same.time bounded.time) (λ id s e. ap (λ sessions. finite.get sessions id) (sym same.sessions) ∙ e)
+    still_bounded t u k bounded room few same.zxid same.limits all (rw same.time bounded.time) (λ id s e. ap (λ sessions. finite.get sessions id) (sym same.sessions) ∙ e)
 
 pub no_nodes : (P : Node → Type 0) → AllNodes P finite.empty
 no_nodes P path n e = absurd (none_is_not_some n (sym (get-empty path_cmp path) ∙ e))
@@ -158,8 +171,8 @@ no_nodes P path n e = absurd (none_is_not_some n (sym (get-empty path_cmp path) 
     none_is_not_some : (n : Node) → None ≡ Some n → ⊥
     none_is_not_some n e = cc
 
-pub no_sessions : AllSessions (IsGranted 0) finite.empty
-no_sessions id s e = let clash : None ≡ Some s = sym (get-empty nat_cmp id) ∙ e in cc
+pub no_sessions : (greatest : ℕ) → AllSessions (IsGranted greatest 0) finite.empty
+no_sessions greatest id s e = let clash : None ≡ Some s = sym (get-empty nat_cmp id) ∙ e in cc
 
-pub opening_bounded : IsBounded opening_tree
-opening_bounded = record { zxid = lit< tt; time = lit< tt; sessions = no_sessions; counters = all_insert (IsWithin 0) finite.empty [] (new_node [] 0 Unlimited 0 0) (no_nodes (IsWithin 0)) (new_within 0 [] 0 Unlimited 0 0) }
+pub opening_bounded : (limits : TreeLimits) → IsBounded (opening_within limits)
+opening_bounded limits = record { zxid = lit< tt; time = lit< tt; sessions = no_sessions limits.timeout; counters = all_insert (IsWithin 0) finite.empty [] (new_node [] 0 Unlimited 0 0) (no_nodes (IsWithin 0)) (new_within 0 [] 0 Unlimited 0 0) }

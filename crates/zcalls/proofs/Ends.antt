@@ -21,6 +21,7 @@ use Rattle.ztree.proofs.Maps.{has_some, get-remove-elsewhere, get-removed}
 use Rattle.ztree.proofs.StaleGone.{CanAllGo, others-can_go}
 use Rattle.ztree.proofs.Ephemerals.{first_is_there, ephemerals-dropped}
 use Rattle.ztree.proofs.Ending.{all_entries}
+use Rattle.zcalls.specs.declared.limits.TheConstants.{MAX_RAISES}
 use Rattle.zcalls.specs.Bounds.{IsWithin}
 use Rattle.zcalls.proofs.Bounds.{all_remove, all_changed}
 
@@ -29,20 +30,21 @@ use Rattle.zcalls.proofs.Bounds.{all_remove, all_changed}
 pub record CanLose (raises nodes : ℕ) (n : Node) : Type 0 where
   pub version : n.version ≤ raises
   pub cversion : n.cversion + nodes ≤ raises
+  pub aversion : n.aversion ≤ raises
   pub seq : n.seq ≤ 2147483648
 
 -- each node can lose all nodes that there are
 abbrev pub RoomForEnds : ℕ → Nodes → Type 0
 RoomForEnds raises nodes = AllNodes (CanLose raises (finite.len nodes)) nodes
 
--- 4,096 raises are enough for all nodes that can go
-pub room_before : (raises : ℕ) (nodes : Nodes) → AllNodes (IsWithin raises) nodes → finite.len nodes ≤ 4096 → RoomForEnds (raises + 4096) nodes
+-- `MAX_RAISES` are enough for all nodes that can go
+pub room_before : (raises : ℕ) (nodes : Nodes) → AllNodes (IsWithin raises) nodes → finite.len nodes ≤ MAX_RAISES → RoomForEnds (raises + MAX_RAISES) nodes
 room_before raises nodes all few path n e =
     let here = all path n e in
-    record { version = omega (arith, here.version); cversion = omega (arith, here.cversion, few); seq = here.seq }
+    record { version = omega (arith, here.version); cversion = omega (arith, here.cversion, few); aversion = omega (arith, here.aversion); seq = here.seq }
 
 pub within_after : (raises : ℕ) (nodes : Nodes) → RoomForEnds raises nodes → AllNodes (IsWithin raises) nodes
-within_after raises nodes room path n e = let here = room path n e in record { version = here.version; cversion = omega (arith, here.cversion); seq = here.seq }
+within_after raises nodes room path n e = let here = room path n e in record { version = here.version; cversion = omega (arith, here.cversion); aversion = here.aversion; seq = here.seq }
 
 -- a change of a node leaves the number of nodes
 len-changed_at : (nodes : Nodes) (path : Path) (f : Node → Node) → finite.len (with_change_at nodes path f) ≡ finite.len nodes
@@ -70,8 +72,8 @@ pub dropped-room : (raises : ℕ) (t : Tree) (path : Path) (n : Node) → finite
 dropped-room raises t path n e room =
     subst (λ len. AllNodes (CanLose raises len) (without_node t path).nodes) (sym (len-changed_at (finite.remove t.nodes path) (parent_of path) (without_child (t.zxid + 1))))
     (all_changed (CanLose raises (finite.len t.nodes)) (CanLose raises (finite.len (finite.remove t.nodes path))) (finite.remove t.nodes path) (parent_of path) (without_child (t.zxid + 1))
-    fewer (λ m h. record { version = h.version; cversion = omega (arith, less, h.cversion); seq = h.seq })
-    (λ m there. let h = fewer (parent_of path) m there in record { version = h.version; cversion = omega (arith, less, h.cversion); seq = h.seq }))
+    fewer (λ m h. record { version = h.version; cversion = omega (arith, less, h.cversion); aversion = h.aversion; seq = h.seq })
+    (λ m there. let h = fewer (parent_of path) m there in record { version = h.version; cversion = omega (arith, less, h.cversion); aversion = h.aversion; seq = h.seq }))
   where
     less : finite.len (finite.remove t.nodes path) + 1 ≤ finite.len t.nodes
     less = one_fewer t.nodes path n e
@@ -121,27 +123,29 @@ few_ephemerals nodes id = subst (λ len. length (ephemerals nodes id) ≤ len) (
     fewer [] = omega arith
     fewer (e ∷ es) = with_one (e.1.owner == id) e.0 (filter_map (λ e. cond (e.1.owner == id) (Some e.0) None) es) (length es) (fewer es)
 
--- the number of the last change and the clock are those of before, and the sessions are some of them
+-- the zxid of the last change, the clock and the limits are those of before, and the sessions are
+-- some of them
 pub record Ends (t u : Tree) : Type 0 where
   pub zxid : u.zxid ≡ t.zxid
   pub time : u.time ≡ t.time
+  pub limits : u.limits ≡ t.limits
   pub sessions : (id : ℕ) (s : Session) → finite.get u.sessions id ≡ Some s → finite.get t.sessions id ≡ Some s
 
 pub all_dropped-ends : (paths : List Path) (t : Tree) → Ends t (without_nodes t paths)
-all_dropped-ends [] t = record { zxid = refl; time = refl; sessions = λ id s e. e }
-all_dropped-ends (path ∷ paths) t = let more = all_dropped-ends paths (without_node t path) in record { zxid = more.zxid; time = more.time; sessions = more.sessions }
+all_dropped-ends [] t = record { zxid = refl; time = refl; limits = refl; sessions = λ id s e. e }
+all_dropped-ends (path ∷ paths) t = let more = all_dropped-ends paths (without_node t path) in record { zxid = more.zxid; time = more.time; limits = more.limits; sessions = more.sessions }
 
 pub ended-ends : (t : Tree) (id : ℕ) → Ends t (without_session t id)
 ended-ends t id =
     let more = all_dropped-ends (ephemerals t.nodes id) t in
-    record { zxid = more.zxid; time = more.time; sessions = λ q s e. (get-removed nat_cmp_total nat_cmp-IsAntisymmetric t.sessions id q s e).1 }
+    record { zxid = more.zxid; time = more.time; limits = more.limits; sessions = λ q s e. (get-removed nat_cmp_total nat_cmp-IsAntisymmetric t.sessions id q s e).1 }
 
 pub all_ended-ends : (ids : List ℕ) (t : Tree) → Ends t (without_sessions t ids)
-all_ended-ends [] t = record { zxid = refl; time = refl; sessions = λ id s e. e }
+all_ended-ends [] t = record { zxid = refl; time = refl; limits = refl; sessions = λ id s e. e }
 all_ended-ends (id ∷ ids) t =
     let first = ended-ends t id in
     let more = all_ended-ends ids (without_session t id) in
-    record { zxid = more.zxid ∙ first.zxid; time = more.time ∙ first.time; sessions = λ q s e. first.sessions q s (more.sessions q s e) }
+    record { zxid = more.zxid ∙ first.zxid; time = more.time ∙ first.time; limits = more.limits ∙ first.limits; sessions = λ q s e. first.sessions q s (more.sessions q s e) }
 
 -- each of these sessions is there when those before it have ended
 abbrev pub AreLive : Sessions → List ℕ → Type 0

@@ -6,16 +6,17 @@ use Rattle.std.specs.Option.{option_map_or}
 use Rattle.zpath.specs.First.{first_that_holds}
 use Rattle.ztree.specs.declared.node.Node.{Node}
 use Rattle.ztree.specs.declared.node.Stat.{Stat}
-use Rattle.ztree.specs.Tree.{Tree, Nodes, Path, with_next_zxid, with_node, without_node, with_data_at, with_data, stat_of, ephemerals}
+use Rattle.ztree.specs.Tree.{Tree, Nodes, Path, with_next_zxid, with_node, without_node, with_data_at, with_data, with_acl_at, stat_of, ephemerals}
 use Rattle.ztree.specs.Sessions.{with_session, with_renewed_session, without_nodes, without_session, without_sessions, due_sessions}
 use Rattle.zcalls.specs.declared.call.Check.{Check as ToCheck}
 use Rattle.zcalls.specs.declared.call.Create.{Create as ToCreate}
 use Rattle.zcalls.specs.declared.call.Delete.{Delete as ToDelete}
 use Rattle.zcalls.specs.declared.call.SetData.{SetData as ToSet}
+use Rattle.zcalls.specs.declared.call.SetAcl.{SetAcl as ToSetAcl}
 use Rattle.zcalls.specs.declared.call.Part.{Part}
 use Rattle.zcalls.specs.declared.call.Part.TheVariants as part_of
 use Rattle.zcalls.specs.declared.call.Update.{Update}
-use Rattle.zcalls.specs.declared.call.Update.TheVariants.{Create, Delete, SetData, Multi, Open, Ping, Close, Tick}
+use Rattle.zcalls.specs.declared.call.Update.TheVariants.{Create, Delete, SetData, SetAcl, Multi, Open, Ping, Close, Tick}
 use Rattle.zcalls.specs.declared.refusal.Refusal.{Refusal}
 use Rattle.zcalls.specs.declared.refusal.Refusal.TheVariants.{BadVersion, SessionGone, TooManySessions, Exhausted}
 use Rattle.zcalls.specs.declared.change.ChangeReply.{ChangeReply}
@@ -25,14 +26,16 @@ use Rattle.zcalls.specs.declared.reply.PartReply.TheVariants.{Created, Deleted, 
 use Rattle.zcalls.specs.declared.reply.Reply.{Reply}
 use Rattle.zcalls.specs.declared.reply.Reply.TheVariants as reply
 use Rattle.zcalls.specs.Change.{part_reply_of}
-use Rattle.zcalls.specs.Part.{create_step, delete_step, set_step, check_step, part_step, reported_as_part, create_refusals, delete_refusals, made_path, owner_of, term_of, unless_refused, on_version, has_other_version, with_node_set, is_gone}
+use Rattle.zcalls.specs.Part.{create_step, delete_step, set_step, acl_step, check_step, part_step, reported_as_part, create_refusals, delete_refusals, made_path, owner_of, term_of, unless_refused, on_version, has_other_version, with_node_set, is_gone}
 use Rattle.zcalls.specs.Multi.{Run, behind, and_then, run}
 use Rattle.zcalls.specs.Step.{step, update_result, change_result, multi_result, granted_timeout, tick_result, after_tick, is_busy, is_exhausted, stale_next}
+use Rattle.zcalls.proofs.Leaving.{Leaves, acl_step-leaves}
 use Rattle.zcalls.proofs.Ticks.{counted-nodes}
 use Rattle.zcalls.specs.CallRuns.{after_calls, Done, and_done, parts_done, where_done, update_done, call_done, calls_done, through}
 
--- what is preserved by the parts that calls do and by each node that goes, is preserved by all
--- calls. A call of a session does no part, and what it takes away goes node by node
+-- What is preserved by the parts that calls do, by each node that goes and by each write of an
+-- access control list, is preserved by all calls. A call of a session does no part, and what it
+-- takes away goes node by node.
 module _ {S : Type 0} (next : S → Part → PartReply → S) (Inv : S → Nodes → Type 0) where
   -- what a part leaves, where it was done
   abbrev pub LeavesDone : S → Part → Result (Tree × PartReply) Refusal → Type 0
@@ -96,11 +99,19 @@ module _ {S : Type 0} (next : S → Part → PartReply → S) (Inv : S → Nodes
   through-append s [] second = refl
   through-append s (done ∷ first) second = through-append (next s done.0 done.1) first second
 
-  module _ (keeps : (s : S) (t : Tree) (client : ℕ) (part : Part) → Inv s t.nodes → LeavesDone s part (part_step t client part)) (drops : (s : S) (t : Tree) (path : Path) → Inv s t.nodes → Inv s (without_node t path).nodes) where
+  module _ (keeps : (s : S) (t : Tree) (client : ℕ) (part : Part) → Inv s t.nodes → LeavesDone s part (part_step t client part)) (drops : (s : S) (t : Tree) (path : Path) → Inv s t.nodes → Inv s (without_node t path).nodes)
+      (counts : (s : S) (t : Tree) (path : Path) → Inv s t.nodes → Inv s (with_acl_at t path).nodes) where
     single : (s : S) (t : Tree) (part : Part) (did : Result (Tree × ChangeReply) Refusal) → LeavesDone s part (reported_as_part did) → Inv s t.nodes
         → Inv (through next s (and_done part (reported_as_part did) (λ u. []))) (change_result t did).0.nodes
     single s t part (Err refusal) left inv = inv
     single s t part (Ok (u, answer)) left inv = left
+
+    acl-keeps : (s : S) (t : Tree) (set : ToSetAcl) → Inv s t.nodes → Inv s (change_result t (acl_step t set)).0.nodes
+    acl-keeps s t set inv = by (acl_step t set) (acl_step-leaves (λ u. Inv s u.nodes) t set (counts s t set.path inv))
+      where
+        by : (did : Result (Tree × ChangeReply) Refusal) → Leaves (λ u. Inv s u.nodes) did → Inv s (change_result t did).0.nodes
+        by (Err refusal) left = inv
+        by (Ok (u, answer)) left = left
 
     runs : (parts : List Part) (s : S) (t : Tree) (client : ℕ) → Inv s t.nodes → RunLeaves s (parts_done t client parts) (run t client parts)
     unfolding parts_done run
@@ -148,9 +159,10 @@ module _ {S : Type 0} (next : S → Part → PartReply → S) (Inv : S → Nodes
     update s t client (Create create) inv = single s t (part_of.Create create) (create_step t client create) (keeps s t client (part_of.Create create) inv) inv
     update s t client (Delete delete) inv = single s t (part_of.Delete delete) (delete_step t delete) (keeps s t client (part_of.Delete delete) inv) inv
     update s t client (SetData set) inv = single s t (part_of.SetData set) (set_step t set) (keeps s t client (part_of.SetData set) inv) inv
+    update s t client (SetAcl set) inv = acl-keeps s t set inv
     update s t client (Multi parts) inv = several s t client parts inv
     update s t client (Open ticks) inv =
-        either s t (reply.Refused TooManySessions) (with_next_zxid (with_session t client (granted_timeout ticks)), reply.Opened (t.zxid + 1) (granted_timeout ticks)) (nat_le 1024 (finite.len t.sessions)) inv inv
+        either s t (reply.Refused TooManySessions) (with_next_zxid (with_session t client (granted_timeout t.limits.timeout ticks)), reply.Opened (t.zxid + 1) (granted_timeout t.limits.timeout ticks)) (nat_le t.limits.sessions (finite.len t.sessions)) inv inv
     update s t client (Ping session) inv = either s t (reply.Refused SessionGone) (with_renewed_session t session, reply.Pinged) (is_gone t.sessions client session) inv inv
     update s t client (Close session) inv =
         either s t (reply.Refused SessionGone) (with_next_zxid (without_session t session), reply.Closed) (is_gone t.sessions client session) inv (all_dropped-keeps (ephemerals t.nodes session) s t inv)

@@ -9,8 +9,7 @@ use Rattle.std.proofs.lemmas.Bool.Decides.{nat_tests}
 use Rattle.zpath.specs.Grammar.{path_cmp}
 use Rattle.ztree.specs.declared.term.Term.{Term}
 use Rattle.ztree.specs.declared.node.Node.{Node}
-use Rattle.ztree.specs.declared.limits.TheConstants.{MAX_SESSIONS}
-use Rattle.ztree.specs.Tree.{Tree, Nodes, Path, parent_of, has_node, new_node, with_child, with_node, without_node, with_data, with_next_zxid}
+use Rattle.ztree.specs.Tree.{Tree, Nodes, Path, parent_of, has_node, new_node, with_child, with_node, without_node, with_data, with_acl, with_next_zxid}
 use Rattle.ztree.specs.Sessions.{with_session, with_renewed_session, without_session}
 use Rattle.ztree.specs.Lawful.{IsLawful}
 use Rattle.ztree.proofs.Sorted.{paths_total}
@@ -20,17 +19,17 @@ use Rattle.ztree.proofs.Ending.{has_node-changed, has_node-dropped, has_node-end
 use Rattle.zcalls.specs.declared.call.Part.{Part}
 use Rattle.zcalls.specs.declared.call.Part.TheVariants as part
 use Rattle.zcalls.specs.declared.call.Update.{Update}
-use Rattle.zcalls.specs.declared.call.Update.TheVariants.{Create, Delete, SetData, Multi, Open, Ping, Close, Tick}
+use Rattle.zcalls.specs.declared.call.Update.TheVariants.{Create, Delete, SetData, SetAcl, Multi, Open, Ping, Close, Tick}
 use Rattle.zcalls.specs.declared.change.ChangeReply.{ChangeReply}
 use Rattle.zcalls.specs.declared.refusal.Refusal.{Refusal}
 use Rattle.zcalls.specs.declared.refusal.Refusal.TheVariants.{SessionGone, TooManySessions, Exhausted}
 use Rattle.zcalls.specs.declared.reply.Reply.{Reply}
 use Rattle.zcalls.specs.declared.reply.Reply.TheVariants as reply
-use Rattle.zcalls.specs.Part.{create_step, delete_step, set_step, part_step, is_gone}
+use Rattle.zcalls.specs.Part.{create_step, delete_step, set_step, acl_step, part_step, is_gone}
 use Rattle.zcalls.specs.Multi.{Run, run}
 use Rattle.zcalls.specs.Step.{step, update_result, change_result, multi_result, granted_timeout, is_exhausted}
 use Rattle.zcalls.specs.TtlLaws.{part_deletes, may_remove, LastsUntilRemoved}
-use Rattle.zcalls.proofs.Leaving.{Leaves, create_step-leaves, delete_step-leaves, set_step-leaves, check_step-leaves, reported_as_part-leaves, and_then-leaves}
+use Rattle.zcalls.proofs.Leaving.{Leaves, create_step-leaves, delete_step-leaves, set_step-leaves, acl_step-leaves, check_step-leaves, reported_as_part-leaves, and_then-leaves}
 use Rattle.zcalls.proofs.Owners.{is_own}
 use Rattle.zcalls.proofs.Sessions.{or_refused}
 
@@ -114,12 +113,15 @@ module _ (path : Path) where
     changed-has t client (SetData set) lawful stays found =
         let here = is_there (finite.get t.nodes path) n found in
         change-has t (set_step t set) (set_step-leaves Has t set (has_node-changed t.nodes set.path (with_data set.bytes (t.zxid + 1) t.time) path ∙ here)) here
+    changed-has t client (SetAcl set) lawful stays found =
+        let here = is_there (finite.get t.nodes path) n found in
+        change-has t (acl_step t set) (acl_step-leaves Has t set (has_node-changed t.nodes set.path with_acl path ∙ here)) here
     changed-has t client (Multi parts) lawful stays found =
         let here = is_there (finite.get t.nodes path) n found in
         multi-has t (run t client parts) (run-has parts t client stays here) here
     changed-has t client (Open ticks) lawful stays found =
-        let timeout = granted_timeout ticks in
-        same-has t (with_next_zxid (with_session t client timeout)) TooManySessions (reply.Opened (t.zxid + 1) timeout) (nat_le MAX_SESSIONS (finite.len t.sessions)) refl
+        let timeout = granted_timeout t.limits.timeout ticks in
+        same-has t (with_next_zxid (with_session t client timeout)) TooManySessions (reply.Opened (t.zxid + 1) timeout) (nat_le t.limits.sessions (finite.len t.sessions)) refl
         (is_there (finite.get t.nodes path) n found)
     changed-has t client (Ping id) lawful stays found =
         same-has t (with_renewed_session t id) SessionGone reply.Pinged (is_gone t.sessions client id) (renewed-nodes t id) (is_there (finite.get t.nodes path) n found)

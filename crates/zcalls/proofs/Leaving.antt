@@ -4,12 +4,12 @@ use Rattle.std.specs.FinMap as finite
 use Rattle.std.specs.Option.{option_map_or}
 use Rattle.zpath.specs.First.{first_that_holds}
 use Rattle.ztree.specs.declared.node.Node.{Node}
-use Rattle.ztree.specs.Tree.{Tree, with_node, without_node, with_data_at, with_data}
+use Rattle.ztree.specs.Tree.{Tree, with_node, without_node, with_data_at, with_data, with_acl_at, with_acl}
 use Rattle.zcalls.specs.declared.call.Create.{Create as ToCreate}
 use Rattle.zcalls.specs.declared.call.Delete.{Delete as ToDelete}
 use Rattle.zcalls.specs.declared.call.SetData.{SetData as ToSet}
+use Rattle.zcalls.specs.declared.call.SetAcl.{SetAcl as ToSetAcl}
 use Rattle.zcalls.specs.declared.call.Check.{Check as ToCheck}
-use Rattle.zcalls.specs.declared.call.Expected.{Expected}
 use Rattle.zcalls.specs.declared.call.Part.{Part}
 use Rattle.zcalls.specs.declared.call.Part.TheVariants.{Create, Delete, SetData, Check}
 use Rattle.zcalls.specs.declared.change.ChangeReply.{ChangeReply}
@@ -18,7 +18,7 @@ use Rattle.zcalls.specs.declared.refusal.Refusal.{Refusal}
 use Rattle.zcalls.specs.declared.refusal.Refusal.TheVariants.{BadVersion}
 use Rattle.zcalls.specs.declared.reply.PartReply.{PartReply}
 use Rattle.zcalls.specs.declared.reply.PartReply.TheVariants.{Checked}
-use Rattle.zcalls.specs.Part.{create_step, delete_step, set_step, check_step, reported_as_part, part_step, create_refusals, delete_refusals, made_path, owner_of, term_of, unless_refused, on_version, has_other_version, with_node_set}
+use Rattle.zcalls.specs.Part.{create_step, delete_step, set_step, acl_step, check_step, reported_as_part, part_step, create_refusals, delete_refusals, made_path, owner_of, term_of, unless_refused, unless_other, has_other_version, has_other_acl, with_node_set}
 use Rattle.zcalls.specs.Multi.{Run, behind, and_then, run}
 
 -- the tree that was left has this, where the step was done
@@ -31,9 +31,9 @@ module _ (P : Tree → Type 0) where
   unless_refused-leaves (Some refusal) did left = tt
   unless_refused-leaves None did left = left refl
 
-  on_version-leaves : {A : Type 0} (expected : Expected) (o : Option Node) (act : Node → Tree × A) → ((n : Node) → o ≡ Some n → P (act n).0) → Leaves P (on_version expected o act)
-  on_version-leaves expected None act left = tt
-  on_version-leaves expected (Some n) act left = by (has_other_version expected n)
+  unless_other-leaves : {A : Type 0} (is_other : Node → Bool) (o : Option Node) (act : Node → Tree × A) → ((n : Node) → o ≡ Some n → P (act n).0) → Leaves P (unless_other is_other o act)
+  unless_other-leaves is_other None act left = tt
+  unless_other-leaves is_other (Some n) act left = by (is_other n)
     where
       by : (b : Bool) → Leaves P (if b then Err BadVersion else Ok (act n))
       by true = tt
@@ -59,12 +59,18 @@ module _ (P : Tree → Type 0) where
   pub set_step-leaves : (t : Tree) (set : ToSet) → P (with_data_at t set.path set.bytes) → Leaves P (set_step t set)
   unfolding set_step
   set_step-leaves t set left =
-      on_version-leaves set.version (finite.get t.nodes set.path) (λ n. with_node_set t set.path (with_data set.bytes (t.zxid + 1) t.time n))
+      unless_other-leaves (has_other_version set.version) (finite.get t.nodes set.path) (λ n. with_node_set t set.path (with_data set.bytes (t.zxid + 1) t.time n))
       (λ n e. subst (λ o. P (record t { nodes = option_map_or (λ n. finite.insert t.nodes set.path (with_data set.bytes (t.zxid + 1) t.time n)) o t.nodes })) e left)
+
+  pub acl_step-leaves : (t : Tree) (set : ToSetAcl) → P (with_acl_at t set.path) → Leaves P (acl_step t set)
+  unfolding acl_step
+  acl_step-leaves t set left =
+      unless_other-leaves (has_other_acl set.version) (finite.get t.nodes set.path) (λ n. with_node_set t set.path (with_acl n))
+      (λ n e. subst (λ o. P (record t { nodes = option_map_or (λ n. finite.insert t.nodes set.path (with_acl n)) o t.nodes })) e left)
 
   pub check_step-leaves : (t : Tree) (check : ToCheck) → P t → Leaves P (check_step t check)
   unfolding check_step
-  check_step-leaves t check left = on_version-leaves check.version (finite.get t.nodes check.path) (λ n. (t, Checked)) (λ n e. left)
+  check_step-leaves t check left = unless_other-leaves (has_other_version check.version) (finite.get t.nodes check.path) (λ n. (t, Checked)) (λ n e. left)
 
   -- a part leaves what the change that it asks for leaves
   pub part_step-leaves : (t : Tree) (client : ℕ) (part : Part)

@@ -28,3 +28,5 @@ pub mod Folds
 pub mod Traced
 pub mod Versions
 pub mod Numbers
+pub mod LimitsStay
+mod AclWrites

@@ -7,24 +7,24 @@ use Rattle.std.specs.FinMap as finite
 use Rattle.std.specs.FinMap.{nat_cmp-IsAntisymmetric}
 use Rattle.std.proofs.lemmas.Bool.Decides.{nat_tests}
 use Rattle.ztree.specs.declared.session.Session.{Session}
-use Rattle.ztree.specs.Tree.{Tree, Sessions, opening_tree, with_next_zxid}
+use Rattle.ztree.specs.Tree.{Tree, Sessions, opening_within, with_next_zxid}
 use Rattle.ztree.specs.Sessions.{new_session, with_session, renewed_session, with_renewed_session, without_session, due_sessions}
 use Rattle.ztree.proofs.Maps.{same_or_other, get-insert-here, get-insert-elsewhere, get-remove-elsewhere}
 use Rattle.ztree.proofs.Ending.{sessions-due_ended}
 use Rattle.zcalls.specs.declared.change.Change.TheVariants as change
 use Rattle.zcalls.specs.declared.change.ChangeReply.{ChangeReply}
 use Rattle.zcalls.specs.declared.call.Update.{Update}
-use Rattle.zcalls.specs.declared.call.Update.TheVariants.{Create, Delete, SetData, Multi, Open, Ping, Close, Tick}
+use Rattle.zcalls.specs.declared.call.Update.TheVariants.{Create, Delete, SetData, SetAcl, Multi, Open, Ping, Close, Tick}
 use Rattle.zcalls.specs.declared.refusal.Refusal.{Refusal}
 use Rattle.zcalls.specs.declared.refusal.Refusal.TheVariants.{SessionGone, TooManySessions, Exhausted}
 use Rattle.zcalls.specs.declared.reply.Reply.TheVariants as reply
-use Rattle.zcalls.specs.Part.{create_step, delete_step, set_step, is_gone}
+use Rattle.zcalls.specs.Part.{create_step, delete_step, set_step, acl_step, is_gone}
 use Rattle.zcalls.specs.Multi.{Run, run}
 use Rattle.zcalls.specs.Step.{step, update_result, change_result, multi_result, granted_timeout, tick_result, is_exhausted, stale_next}
 use Rattle.zcalls.specs.support.Alone.{ChangesNodesAlone}
 use Rattle.zcalls.specs.CallRuns.{after_calls}
 use Rattle.zcalls.specs.SessionLaws.{NeverCloses, one_if_tick, ticks_in, if_not_due, LivesItsTimeout}
-use Rattle.zcalls.proofs.NodesAlone.{change-alone, run-alone}
+use Rattle.zcalls.proofs.NodesAlone.{change-alone, acl-alone, run-alone}
 use Rattle.zcalls.proofs.Leaving.{Leaves}
 use Rattle.zcalls.proofs.Owners.{is_own}
 use Rattle.zcalls.proofs.Taking.{changes_take_one_zxid}
@@ -160,8 +160,9 @@ module _ (client timeout id : ℕ) where
     changed-in (Create create) left never is = alone-in k t (create_step t caller create) (change-alone t caller (change.Create create)) (fewer _ k t (omega arith) is)
     changed-in (Delete delete) left never is = alone-in k t (delete_step t delete) (change-alone t caller (change.Delete delete)) (fewer _ k t (omega arith) is)
     changed-in (SetData set) left never is = alone-in k t (set_step t set) (change-alone t caller (change.SetData set)) (fewer _ k t (omega arith) is)
+    changed-in (SetAcl set) left never is = alone-in k t (acl_step t set) (acl-alone t set) (fewer _ k t (omega arith) is)
     changed-in (Multi parts) left never is = together-in k t (run t caller parts) (run-alone parts t caller) (fewer _ k t (omega arith) is)
-    changed-in (Open ticks) left never is = opened-in k t caller (granted_timeout ticks) (nat_le 1024 (finite.len t.sessions)) another (fewer _ k t (omega arith) is)
+    changed-in (Open ticks) left never is = opened-in k t caller (granted_timeout t.limits.timeout ticks) (nat_le t.limits.sessions (finite.len t.sessions)) another (fewer _ k t (omega arith) is)
     changed-in (Ping session) left never is = pinged-in k t session (is_gone t.sessions caller session) short (fewer _ k t (omega arith) is)
     changed-in (Close session) left never is =
         closed-in k t caller session (is_gone t.sessions caller session) refl (λ own same. never own (ap Close same)) (fewer _ k t (omega arith) is)
@@ -185,9 +186,9 @@ module _ (client timeout id : ℕ) where
       (step-in t call.0 k (omega (arith, short)) (λ e. omega (arith, old, e)) call.1 never.0 is)
 
 pub lives_its_timeout : LivesItsTimeout
-lives_its_timeout before calls id s there fresh never short =
-    let t = after_calls opening_tree before in
-    let given = ((after-good before).1 id s there).before in
+lives_its_timeout limits allowed before calls id s there fresh never short =
+    let t = after_calls (opening_within limits) before in
+    let given = ((after-good limits allowed before).1 id s there).before in
     let found : Some fresh.0 ≡ Some s = sym fresh.1 ∙ there in
     let its : fresh.0 ≡ s = cc found in
     let deadline : s.deadline ≡ t.time + s.timeout = ap (λ (x : Session). x.deadline) (sym its) ∙ fresh.2 ∙ ap (λ (x : Session). t.time + x.timeout) its in

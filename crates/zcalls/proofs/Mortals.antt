@@ -86,7 +86,7 @@ unfolding step
 set_puts_off t client set stat e = by_number t set stat client (is_exhausted t (SetData set)) e
 
 pub nobody_owns_the_timed : NobodyOwnsTheTimed
-nobody_owns_the_timed calls path n found some = nobodys n ((trees_are_lawful calls).ends path n found) some
+nobody_owns_the_timed limits allowed calls path n found some = nobodys n ((trees_are_lawful limits allowed calls).ends path n found) some
 
 ticked : (t : Tree) (client : ℕ) → is_exhausted t Tick ≡ false → (step t client Tick).1 ≡ (update_result t client Tick).1
 unfolding step

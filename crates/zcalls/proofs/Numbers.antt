@@ -8,7 +8,7 @@ use Rattle.zpath.specs.Numbered.{numbered_path}
 use Rattle.zpath.proofs.First.{no_test_holds}
 use Rattle.zpath.proofs.Sequence.{numbers_are_distinct}
 use Rattle.ztree.specs.declared.node.Node.{Node}
-use Rattle.ztree.specs.Tree.{Tree, Nodes, Path, opening_tree, new_node, parent_of, has_node, with_child, without_child, with_data, with_node, without_node, with_data_at}
+use Rattle.ztree.specs.Tree.{Tree, Nodes, Path, opening_within, new_node, parent_of, has_node, with_child, without_child, with_data, with_acl, with_node, without_node, with_data_at, with_acl_at}
 use Rattle.ztree.proofs.Sorted.{paths_total}
 use Rattle.zcalls.specs.declared.call.Create.{Create as ToCreate}
 use Rattle.zcalls.specs.declared.call.Part.{Part}
@@ -87,6 +87,15 @@ module _ (above : Path) where
           let same = same_of (λ (n : Node). n.seq) f (λ m. refl) (is_same above at) n from.before from.is in
           subst (λ seq. AllByRecursion (IsGiven seq) made) (sym same) (inv.1 from.before from.there)
 
+  acl-numbers : (made : List Path) (t : Tree) (at : Path) → HasNumbers made t.nodes → HasNumbers made (with_acl_at t at).nodes
+  acl-numbers made t at inv = (inv.0, each)
+    where
+      each : (n : Node) → finite.get (with_acl_at t at).nodes above ≡ Some n → AllByRecursion (IsGiven n.seq) made
+      each n e =
+          let from = traced t.nodes at with_acl above n e in
+          let same = same_of (λ (n : Node). n.seq) with_acl (λ m. refl) (is_same above at) n from.before from.is in
+          subst (λ seq. AllByRecursion (IsGiven seq) made) (sym same) (inv.1 from.before from.there)
+
   -- a create that was done
   module _ (made : List Path) (t : Tree) (create : ToCreate) (inv : HasNumbers made t.nodes)
       (below : create.path ≢ []) (there : has_node t.nodes (parent_of create.path) ≡ true)
@@ -162,5 +171,5 @@ module _ (above : Path) where
 
 pub numbers_differ : NumbersDiffer
 unfolding IsDistinct
-numbers_differ calls above =
-    (kept_by_calls (numbered_since above) (HasNumbers above) (part-numbers above) (dropped-numbers above) calls [] opening_tree (tt, λ n e. tt)).0
+numbers_differ limits calls above =
+    (kept_by_calls (numbered_since above) (HasNumbers above) (part-numbers above) (dropped-numbers above) (acl-numbers above) calls [] (opening_within limits) (tt, λ n e. tt)).0

@@ -7,7 +7,7 @@ use Rattle.ztree.specs.Sessions.{with_session, with_renewed_session, without_ses
 use Rattle.ztree.specs.declared.node.Node.{Node}
 use Rattle.ztree.specs.declared.node.Stat.{Stat}
 use Rattle.zcalls.specs.declared.call.Update.{Update}
-use Rattle.zcalls.specs.declared.call.Update.TheVariants.{Create, Delete, SetData, Multi, Open, Ping, Close, Tick}
+use Rattle.zcalls.specs.declared.call.Update.TheVariants.{Create, Delete, SetData, SetAcl, Multi, Open, Ping, Close, Tick}
 use Rattle.zcalls.specs.declared.refusal.Refusal.{Refusal}
 use Rattle.zcalls.specs.declared.refusal.Refusal.TheVariants.{SessionGone, TooManySessions, Exhausted}
 use Rattle.zcalls.specs.declared.change.ChangeReply.{ChangeReply}
@@ -15,7 +15,7 @@ use Rattle.zcalls.specs.declared.change.ChangeReply.TheVariants.{Created, Delete
 use Rattle.zcalls.specs.Change.{reply_of}
 use Rattle.zcalls.specs.declared.reply.Reply.{Reply}
 use Rattle.zcalls.specs.declared.reply.Reply.TheVariants as reply
-use Rattle.zcalls.specs.Part.{create_step, delete_step, set_step, is_gone}
+use Rattle.zcalls.specs.Part.{create_step, delete_step, set_step, acl_step, is_gone}
 use Rattle.zcalls.specs.Multi.{Run, run}
 use Rattle.zcalls.specs.Step.{step, query_reply, update_result, change_result, multi_result, granted_timeout, open_result, session_result, tick_result, is_exhausted, stale_next, on_node}
 use Rattle.zcalls.specs.Laws.{RefusedChangesNothing, RefusedMultiChangesNothing, CountsTheNames}
@@ -55,12 +55,12 @@ refused_or t why did P refused done false = done
 with_session-refused : (t : Tree) (client timeout : ℕ) (refusal : Refusal) → (open_result t client timeout).1 ≡ reply.Refused refusal → (open_result t client timeout).0 ≡ t
 with_session-refused t client timeout refusal =
     refused_or t TooManySessions (with_next_zxid (with_session t client timeout), reply.Opened (t.zxid + 1) timeout)
-    (λ did. did.1 ≡ reply.Refused refusal → did.0 ≡ t) (λ e. refl) (λ e. cc) (nat_le 1024 (finite.len t.sessions))
+    (λ did. did.1 ≡ reply.Refused refusal → did.0 ≡ t) (λ e. refl) (λ e. cc) (nat_le t.limits.sessions (finite.len t.sessions))
 
 with_session-no_multi : (t : Tree) (client timeout number : ℕ) (refusal : Refusal) → (open_result t client timeout).1 ≡ reply.MultiRefused number refusal → ⊥
 with_session-no_multi t client timeout number refusal =
     refused_or t TooManySessions (with_next_zxid (with_session t client timeout), reply.Opened (t.zxid + 1) timeout)
-    (λ did. did.1 ≡ reply.MultiRefused number refusal → ⊥) (λ e. cc) (λ e. cc) (nat_le 1024 (finite.len t.sessions))
+    (λ did. did.1 ≡ reply.MultiRefused number refusal → ⊥) (λ e. cc) (λ e. cc) (nat_le t.limits.sessions (finite.len t.sessions))
 
 on_session-refused : (t : Tree) (client session : ℕ) (did : Tree × Reply) (refusal : Refusal) → (did.1 ≡ reply.Refused refusal → ⊥) → (session_result t client session did).1 ≡ reply.Refused refusal → (session_result t client session did).0 ≡ t
 on_session-refused t client session did refusal isnt =
@@ -80,8 +80,9 @@ changed-refused : (t : Tree) (client : ℕ) (update : Update) (refusal : Refusal
 changed-refused t client (Create create) refusal e = alone-refused t (create_step t client create) refusal e
 changed-refused t client (Delete delete) refusal e = alone-refused t (delete_step t delete) refusal e
 changed-refused t client (SetData set) refusal e = alone-refused t (set_step t set) refusal e
+changed-refused t client (SetAcl set) refusal e = alone-refused t (acl_step t set) refusal e
 changed-refused t client (Multi parts) refusal e = together-refused t (run t client parts) refusal e
-changed-refused t client (Open ticks) refusal e = with_session-refused t client (granted_timeout ticks) refusal e
+changed-refused t client (Open ticks) refusal e = with_session-refused t client (granted_timeout t.limits.timeout ticks) refusal e
 changed-refused t client (Ping session) refusal e = on_session-refused t client session (with_renewed_session t session, reply.Pinged) refusal (λ e. cc) e
 changed-refused t client (Close session) refusal e = on_session-refused t client session (with_next_zxid (without_session t session), reply.Closed) refusal (λ e. cc) e
 changed-refused t client Tick refusal e = absurd (tick_is_not_refused t (due_sessions t.sessions (t.time + 1)) (stale_next t) refusal e)
@@ -90,8 +91,9 @@ changed-no_multi : (t : Tree) (client : ℕ) (update : Update) (number : ℕ) (r
 changed-no_multi t client (Create create) number refusal e = alone-no_multi t (create_step t client create) number refusal e
 changed-no_multi t client (Delete delete) number refusal e = alone-no_multi t (delete_step t delete) number refusal e
 changed-no_multi t client (SetData set) number refusal e = alone-no_multi t (set_step t set) number refusal e
+changed-no_multi t client (SetAcl set) number refusal e = alone-no_multi t (acl_step t set) number refusal e
 changed-no_multi t client (Multi parts) number refusal e = together-no_multi t (run t client parts) number refusal e
-changed-no_multi t client (Open ticks) number refusal e = absurd (with_session-no_multi t client (granted_timeout ticks) number refusal e)
+changed-no_multi t client (Open ticks) number refusal e = absurd (with_session-no_multi t client (granted_timeout t.limits.timeout ticks) number refusal e)
 changed-no_multi t client (Ping session) number refusal e = absurd (on_session-no_multi t client session (with_renewed_session t session, reply.Pinged) number refusal (λ e. cc) e)
 changed-no_multi t client (Close session) number refusal e = absurd (on_session-no_multi t client session (with_next_zxid (without_session t session), reply.Closed) number refusal (λ e. cc) e)
 changed-no_multi t client Tick number refusal e = absurd (tick_is_no_multi t (due_sessions t.sessions (t.time + 1)) (stale_next t) number refusal e)

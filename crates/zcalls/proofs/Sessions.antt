@@ -14,18 +14,18 @@ use Rattle.ztree.proofs.Ending.{sessions-due_ended}
 use Rattle.zcalls.specs.declared.change.Change.TheVariants as change
 use Rattle.zcalls.specs.declared.change.ChangeReply.{ChangeReply}
 use Rattle.zcalls.specs.declared.call.Update.{Update}
-use Rattle.zcalls.specs.declared.call.Update.TheVariants.{Create, Delete, SetData, Multi, Open, Ping, Close, Tick}
+use Rattle.zcalls.specs.declared.call.Update.TheVariants.{Create, Delete, SetData, SetAcl, Multi, Open, Ping, Close, Tick}
 use Rattle.zcalls.specs.declared.refusal.Refusal.{Refusal}
 use Rattle.zcalls.specs.declared.refusal.Refusal.TheVariants.{SessionGone, TooManySessions, Exhausted}
 use Rattle.zcalls.specs.declared.reply.Reply.{Reply}
 use Rattle.zcalls.specs.declared.reply.Reply.TheVariants as reply
-use Rattle.zcalls.specs.Part.{create_step, delete_step, set_step, is_gone}
+use Rattle.zcalls.specs.Part.{create_step, delete_step, set_step, acl_step, is_gone}
 use Rattle.zcalls.specs.Multi.{Run, run}
 use Rattle.zcalls.specs.Step.{step, update_result, change_result, multi_result, granted_timeout, open_result, tick_result, is_exhausted, stale_next}
 use Rattle.zcalls.proofs.Ticks.{ticked-sessions}
 use Rattle.zcalls.specs.SessionLaws.{IsOwnClose, IsItsTick, EndsOnlySo, if_not_due, TickEndsTheDue, IsFresh, OpenAndPingRenew}
 use Rattle.zcalls.specs.support.Alone.{ChangesNodesAlone}
-use Rattle.zcalls.proofs.NodesAlone.{change-alone, run-alone}
+use Rattle.zcalls.proofs.NodesAlone.{change-alone, acl-alone, run-alone}
 use Rattle.zcalls.proofs.Leaving.{Leaves}
 use Rattle.zcalls.proofs.Owners.{is_own}
 
@@ -105,8 +105,9 @@ module _ (t : Tree) (client id : ℕ) (s : Session) (there : finite.get t.sessio
   changed-ends (Create create) left gone = absurd (not_ended _ (alone-sessions t (create_step t client create) (change-alone t client (change.Create create))) gone)
   changed-ends (Delete delete) left gone = absurd (not_ended _ (alone-sessions t (delete_step t delete) (change-alone t client (change.Delete delete))) gone)
   changed-ends (SetData set) left gone = absurd (not_ended _ (alone-sessions t (set_step t set) (change-alone t client (change.SetData set))) gone)
+  changed-ends (SetAcl set) left gone = absurd (not_ended _ (alone-sessions t (acl_step t set) (acl-alone t set)) gone)
   changed-ends (Multi parts) left gone = absurd (not_ended _ (together-sessions t (run t client parts) (run-alone parts t client)) gone)
-  changed-ends (Open ticks) left gone = opened-ends (granted_timeout ticks) (Open ticks) (nat_le 1024 (finite.len t.sessions)) gone
+  changed-ends (Open ticks) left gone = opened-ends (granted_timeout t.limits.timeout ticks) (Open ticks) (nat_le t.limits.sessions (finite.len t.sessions)) gone
   changed-ends (Ping session) left gone = pinged-ends session (Ping session) (is_gone t.sessions client session) gone
   changed-ends (Close session) left gone = closed-ends session (is_gone t.sessions client session) refl gone
   changed-ends Tick left gone = ticked-ends left gone
@@ -144,7 +145,7 @@ or_exhausted t did id reported false isnt fresh e = fresh e
 pub open_and_ping_renew : OpenAndPingRenew
 unfolding step
 open_and_ping_renew t client ticks id timeout = (
-  or_exhausted t (open_result t client (granted_timeout ticks)) id (reply.Opened id timeout) (is_exhausted t (Open ticks)) (λ e. cc)
-      (opened-fresh t client (granted_timeout ticks) id timeout (nat_le 1024 (finite.len t.sessions))),
+  or_exhausted t (open_result t client (granted_timeout t.limits.timeout ticks)) id (reply.Opened id timeout) (is_exhausted t (Open ticks)) (λ e. cc)
+      (opened-fresh t client (granted_timeout t.limits.timeout ticks) id timeout (nat_le t.limits.sessions (finite.len t.sessions))),
   pinged-fresh t client id (is_gone t.sessions client id) refl,
 )

@@ -1,4 +1,4 @@
--- Tables of refusals, one after the other, and what is done with a node of the version that is expected.
+-- Tables of refusals, one after the other, and what is done with a node of the expected version.
 use Rattle.std.proofs.Common.{◌≡◌, Bool, true, false, cond, if◌then◌else◌, List, [], ◌∷◌, ◌++◌, Option, Some, None, Ok, Err, refl, sym, ap, ◌∙◌}
 use Rattle.std.specs.Prelude.{not, is_some}
 use Rattle.std.specs.Option.{option_map_or}
@@ -6,7 +6,7 @@ use Rattle.zpath.specs.First.{first_that_holds}
 use Rattle.ztree.specs.declared.node.Node.{Node}
 use Rattle.zcalls.specs.declared.call.Expected.{Expected}
 use Rattle.zcalls.specs.declared.refusal.Refusal.TheVariants.{NoNode, BadVersion}
-use Rattle.zcalls.specs.Part.{on_version, has_other_version}
+use Rattle.zcalls.specs.Part.{unless_other, on_version, has_other_version}
 
 module _ {A : Type 0} where
   -- a first table decides where one of its tests holds
@@ -31,18 +31,29 @@ module _ {A : Type 0} where
       by true e rest = cc
       by false e rest = rest e
 
+  -- the same for each test of a version
+  module _ (is_other : Node → Bool) (act : Node → A) where
+    pub absent-unless_other : (o : Option Node) → is_some o ≡ false → unless_other is_other o act ≡ Err NoNode
+    absent-unless_other None e = refl
+    absent-unless_other (Some n) e = cc
+
+    pub stale-unless_other : (o : Option Node) → option_map_or is_other o false ≡ true → unless_other is_other o act ≡ Err BadVersion
+    stale-unless_other None e = cc
+    stale-unless_other (Some n) e = ap (λ b. if b then Err BadVersion else Ok (act n)) e
+
+    pub fresh-unless_other : (o : Option Node) (n : Node) → o ≡ Some n → option_map_or is_other o false ≡ false → unless_other is_other o act ≡ Ok (act n)
+    fresh-unless_other o n is e =
+        ap (λ o. unless_other is_other o act) is
+        ∙ ap (λ b. if b then Err BadVersion else Ok (act n)) (sym (ap (λ o. option_map_or is_other o false) is) ∙ e)
+
   pub absent-on_version : (expected : Expected) (o : Option Node) (act : Node → A) → is_some o ≡ false → on_version expected o act ≡ Err NoNode
-  absent-on_version expected None act e = refl
-  absent-on_version expected (Some n) act e = cc
+  absent-on_version expected o act = absent-unless_other (has_other_version expected) act o
 
   pub stale-on_version : (expected : Expected) (o : Option Node) (act : Node → A) → option_map_or (has_other_version expected) o false ≡ true → on_version expected o act ≡ Err BadVersion
-  stale-on_version expected None act e = cc
-  stale-on_version expected (Some n) act e = ap (λ b. if b then Err BadVersion else Ok (act n)) e
+  stale-on_version expected o act = stale-unless_other (has_other_version expected) act o
 
   pub fresh-on_version : (expected : Expected) (o : Option Node) (act : Node → A) (n : Node) → o ≡ Some n → option_map_or (has_other_version expected) o false ≡ false → on_version expected o act ≡ Ok (act n)
-  fresh-on_version expected o act n is e =
-      ap (λ o. on_version expected o act) is
-      ∙ ap (λ b. if b then Err BadVersion else Ok (act n)) (sym (ap (λ o. option_map_or (has_other_version expected) o false) is) ∙ e)
+  fresh-on_version expected o act = fresh-unless_other (has_other_version expected) act o
 
 -- a node that is there
 pub node_there : {A : Type 0} (o : Option A) → is_some o ≡ true → (n : A) × (o ≡ Some n)

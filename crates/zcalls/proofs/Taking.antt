@@ -10,17 +10,17 @@ use Rattle.zcalls.specs.declared.change.ChangeReply.TheVariants.{Created, Delete
 use Rattle.zcalls.specs.Change.{reply_of}
 use Rattle.zcalls.specs.support.Alone.{ChangesNodesAlone}
 use Rattle.zcalls.specs.declared.call.Update.{Update}
-use Rattle.zcalls.specs.declared.call.Update.TheVariants.{Create, Delete, SetData, Multi, Open, Ping, Close, Tick}
+use Rattle.zcalls.specs.declared.call.Update.TheVariants.{Create, Delete, SetData, SetAcl, Multi, Open, Ping, Close, Tick}
 use Rattle.zcalls.specs.declared.refusal.Refusal.{Refusal}
 use Rattle.zcalls.specs.declared.refusal.Refusal.TheVariants.{SessionGone, TooManySessions, Exhausted}
 use Rattle.zcalls.specs.declared.reply.Reply.{Reply}
 use Rattle.zcalls.specs.declared.reply.Reply.TheVariants as reply
-use Rattle.zcalls.specs.Part.{create_step, delete_step, set_step, is_gone}
+use Rattle.zcalls.specs.Part.{create_step, delete_step, set_step, acl_step, is_gone}
 use Rattle.zcalls.specs.Multi.{Run, run}
 use Rattle.zcalls.specs.Step.{step, update_result, change_result, multi_result, granted_timeout, tick_result, after_tick, counted_if, is_busy, is_exhausted, stale_next}
 use Rattle.zcalls.proofs.Ticks.{gone-ends}
 use Rattle.zcalls.specs.CallRuns.{is_change, ChangesTakeOneZxid}
-use Rattle.zcalls.proofs.NodesAlone.{change-alone, run-alone}
+use Rattle.zcalls.proofs.NodesAlone.{change-alone, acl-alone, run-alone}
 use Rattle.zcalls.proofs.Leaving.{Leaves}
 use Rattle.zcalls.proofs.Ends.{ended-ends}
 
@@ -68,10 +68,11 @@ changed-takes : (t : Tree) (client : ℕ) (update : Update) → Takes t (update_
 changed-takes t client (Create create) = alone-takes t (create_step t client create) (change-alone t client (change.Create create))
 changed-takes t client (Delete delete) = alone-takes t (delete_step t delete) (change-alone t client (change.Delete delete))
 changed-takes t client (SetData set) = alone-takes t (set_step t set) (change-alone t client (change.SetData set))
+changed-takes t client (SetAcl set) = alone-takes t (acl_step t set) (acl-alone t set)
 changed-takes t client (Multi parts) = together-takes t (run t client parts) (run-alone parts t client)
 changed-takes t client (Open ticks) =
-    let timeout = granted_timeout ticks in
-    either t (reply.Refused TooManySessions) (with_next_zxid (with_session t client timeout), reply.Opened (t.zxid + 1) timeout) (nat_le 1024 (finite.len t.sessions)) refl
+    let timeout = granted_timeout t.limits.timeout ticks in
+    either t (reply.Refused TooManySessions) (with_next_zxid (with_session t client timeout), reply.Opened (t.zxid + 1) timeout) (nat_le t.limits.sessions (finite.len t.sessions)) refl
     (changes t (with_session t client timeout) (reply.Opened (t.zxid + 1) timeout) refl refl)
 changed-takes t client (Ping session) =
     either t (reply.Refused SessionGone) (with_renewed_session t session, reply.Pinged) (is_gone t.sessions client session) refl (unchanged t (with_renewed_session t session) reply.Pinged refl refl)

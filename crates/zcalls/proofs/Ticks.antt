@@ -13,7 +13,7 @@ pub gone-ends : (ids : List ℕ) (paths : List Path) (t : Tree) → Ends t (with
 gone-ends ids paths t =
     let first = all_ended-ends ids t in
     let more = all_dropped-ends paths (without_sessions t ids) in
-    record { zxid = more.zxid ∙ first.zxid; time = more.time ∙ first.time; sessions = λ q s e. first.sessions q s (more.sessions q s e) }
+    record { zxid = more.zxid ∙ first.zxid; time = more.time ∙ first.time; limits = more.limits ∙ first.limits; sessions = λ q s e. first.sessions q s (more.sessions q s e) }
 
 -- a change that is counted, or isn't, is otherwise the same
 pub counted : (P : Tree → Type 0) (b : Bool) (u : Tree) → P u → (P u → P (counted_if true u)) → P (counted_if b u)
@@ -27,6 +27,10 @@ counted-sessions false u = refl
 pub counted-time : (b : Bool) (u : Tree) → (counted_if b u).time ≡ u.time
 counted-time true u = refl
 counted-time false u = refl
+
+pub counted-limits : (b : Bool) (u : Tree) → (counted_if b u).limits ≡ u.limits
+counted-limits true u = refl
+counted-limits false u = refl
 
 pub counted-nodes : (b : Bool) (u : Tree) → (counted_if b u).nodes ≡ u.nodes
 counted-nodes true u = refl

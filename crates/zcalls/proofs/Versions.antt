@@ -5,8 +5,9 @@ use Rattle.std.specs.FinMap.{get-insert, get-empty}
 use Rattle.zpath.specs.Grammar.{path_cmp}
 use Rattle.ztree.specs.declared.term.Term.{Term}
 use Rattle.ztree.specs.declared.term.Term.TheVariants.{Unlimited}
+use Rattle.ztree.specs.declared.limits.TreeLimits.{TreeLimits}
 use Rattle.ztree.specs.declared.node.Node.{Node}
-use Rattle.ztree.specs.Tree.{Tree, Nodes, Path, opening_tree, new_node, parent_of, with_child, without_child, with_data, with_node, without_node, with_data_at}
+use Rattle.ztree.specs.Tree.{Tree, Nodes, Path, opening_within, new_node, parent_of, with_child, without_child, with_data, with_acl, with_node, without_node, with_data_at, with_acl_at}
 use Rattle.ztree.proofs.Sorted.{paths_total}
 use Rattle.zcalls.specs.declared.call.Part.{Part}
 use Rattle.zcalls.specs.declared.call.Part.TheVariants.{Create, Delete, SetData, Check}
@@ -52,6 +53,12 @@ module _ (path : Path) where
       by f one_more m is true now = ap (λ (n : Node). n.version) now ∙ one_more m ∙ ap (λ v. v + 1) is
       by f one_more m is false now = ap (λ (n : Node). n.version) now ∙ is
 
+  acl-counts : (sets : ℕ) (t : Tree) (at : Path) → HasVersion sets t.nodes → HasVersion sets (with_acl_at t at).nodes
+  acl-counts sets t at inv n e =
+      let from = traced t.nodes at with_acl path n e in
+      same_of (λ (n : Node). n.version) with_acl (λ m. refl) (is_same path at) n from.before from.is
+      ∙ inv from.before from.there
+
   part-counts : (sets : ℕ) (t : Tree) (client : ℕ) (part : Part) → HasVersion sets t.nodes → LeavesDone (sets_since path) HasVersion sets part (part_step t client part)
   part-counts sets t client (Create create) inv =
       create-leaves (sets_since path) HasVersion sets t client create
@@ -60,13 +67,13 @@ module _ (path : Path) where
   part-counts sets t client (SetData set) inv = set-leaves (sets_since path) HasVersion sets t client set (λ stat. written-counts sets t set.path set.bytes inv)
   part-counts sets t client (Check check) inv = check-leaves (sets_since path) HasVersion sets t client check inv
 
-  opening-counts : HasVersion 0 opening_tree.nodes
-  opening-counts n e = by (is_same path []) (sym (get-insert paths_total finite.empty [] (new_node [] 0 Unlimited 0 0) path) ∙ e)
+  opening-counts : (limits : TreeLimits) → HasVersion 0 (opening_within limits).nodes
+  opening-counts limits n e = by (is_same path []) (sym (get-insert paths_total finite.empty [] (new_node [] 0 Unlimited 0 0) path) ∙ e)
     where
       by : (b : Bool) → cond b (Some (new_node [] 0 Unlimited 0 0)) (finite.get {R = path_cmp} finite.empty path) ≡ Some n → n.version ≡ 0
       by true e = let is_new : new_node [] 0 Unlimited 0 0 ≡ n = cc e in sym (ap (λ (n : Node). n.version) is_new)
       by false e = let clash : None ≡ Some n = sym (get-empty path_cmp path) ∙ e in cc
 
 pub version_counts_sets : VersionCountsSets
-version_counts_sets calls path =
-    kept_by_calls (sets_since path) (HasVersion path) (part-counts path) (dropped-counts path) calls 0 opening_tree (opening-counts path)
+version_counts_sets limits calls path =
+    kept_by_calls (sets_since path) (HasVersion path) (part-counts path) (dropped-counts path) (acl-counts path) calls 0 (opening_within limits) (opening-counts path limits)

@@ -6,16 +6,17 @@ use Rattle.ztree.specs.Lawful.{AllNodes}
 use Rattle.ztree.specs.Sessions.{with_session, with_renewed_session, without_nodes, without_session, without_sessions, due_sessions, with_next_tick}
 use Rattle.ztree.specs.declared.term.Term.{Term}
 use Rattle.ztree.specs.declared.term.Term.TheVariants.{Unlimited}
+use Rattle.ztree.specs.declared.limits.TreeLimits.{TreeLimits}
 use Rattle.ztree.specs.declared.node.Node.{Node}
-use Rattle.ztree.specs.Tree.{Tree, Path, ephemerals, opening_tree, new_node, parent_of, with_child, without_child, with_data, with_node, without_node, with_data_at, with_next_zxid}
+use Rattle.ztree.specs.Tree.{Tree, Path, ephemerals, opening_within, new_node, parent_of, with_child, without_child, with_data, with_acl, with_node, without_node, with_data_at, with_acl_at, with_next_zxid}
 use Rattle.zcalls.specs.declared.call.Part.{Part}
 use Rattle.zcalls.specs.declared.call.Update.{Update}
-use Rattle.zcalls.specs.declared.call.Update.TheVariants.{Create, Delete, SetData, Multi, Open, Ping, Close, Tick}
+use Rattle.zcalls.specs.declared.call.Update.TheVariants.{Create, Delete, SetData, SetAcl, Multi, Open, Ping, Close, Tick}
 use Rattle.zcalls.specs.declared.refusal.Refusal.{Refusal}
 use Rattle.zcalls.specs.declared.refusal.Refusal.TheVariants.{SessionGone, TooManySessions, Exhausted}
 use Rattle.zcalls.specs.declared.reply.Reply.{Reply}
 use Rattle.zcalls.specs.declared.reply.Reply.TheVariants as reply
-use Rattle.zcalls.specs.Part.{change_step, create_step, delete_step, set_step, part_step, made_path, owner_of, is_gone, term_of}
+use Rattle.zcalls.specs.Part.{change_step, create_step, delete_step, set_step, acl_step, part_step, made_path, owner_of, is_gone, term_of}
 use Rattle.zcalls.specs.declared.change.Change.{Change}
 use Rattle.zcalls.specs.declared.change.Change.TheVariants as change
 use Rattle.zcalls.specs.declared.change.ChangeReply.{ChangeReply}
@@ -23,7 +24,7 @@ use Rattle.zcalls.specs.Multi.{Run, run}
 use Rattle.zcalls.specs.Step.{step, update_result, change_result, multi_result, granted_timeout, tick_result, after_tick, counted_if, is_busy, is_exhausted, stale_next}
 use Rattle.zcalls.proofs.Ticks.{idle}
 use Rattle.zcalls.specs.CallRuns.{after_calls, IsOlder, ZxidsRise}
-use Rattle.zcalls.proofs.Leaving.{Leaves, create_step-leaves, delete_step-leaves, set_step-leaves, part_step-leaves, run-leaves}
+use Rattle.zcalls.proofs.Leaving.{Leaves, create_step-leaves, delete_step-leaves, set_step-leaves, acl_step-leaves, part_step-leaves, run-leaves}
 use Rattle.zcalls.proofs.Taking.{changes_take_one_zxid}
 use Rattle.zcalls.proofs.Bounds.{all_insert, all_remove, all_changed, no_nodes}
 
@@ -82,6 +83,18 @@ written-dated zxid time t path bytes dated =
         all_changed Past Past t.nodes path (with_data bytes (t.zxid + 1) t.time) dated.1.1 (λ n old. old)
             (λ n e. let old = dated.1.1 path n e in
             record { older = record { czxid = old.older.czxid; mzxid = omega (arith, same); pzxid = old.older.pzxid }; ctime = old.ctime; mtime = omega (arith, tick) }),
+      ),
+    )
+
+acl-dated : (zxid time : ℕ) (t : Tree) (path : Path) → IsDated zxid time t → IsDated zxid time (with_acl_at t path)
+acl-dated zxid time t path dated =
+    let Past = IsPast (zxid + 2) time in (
+      dated.0,
+      (
+        dated.1.0,
+        all_changed Past Past t.nodes path with_acl dated.1.1 (λ n old. old)
+            (λ n e. let old = dated.1.1 path n e in
+            record { older = record { czxid = old.older.czxid; mzxid = old.older.mzxid; pzxid = old.older.pzxid }; ctime = old.ctime; mtime = old.mtime }),
       ),
     )
 
@@ -179,10 +192,11 @@ changed-settled : (t : Tree) (client : ℕ) (update : Update) → IsSettled t �
 changed-settled t client (Create create) is = alone-settled t (create_step t client create) is (change-dated t.zxid t.time t client (change.Create create) (later t is))
 changed-settled t client (Delete delete) is = alone-settled t (delete_step t delete) is (change-dated t.zxid t.time t client (change.Delete delete) (later t is))
 changed-settled t client (SetData set) is = alone-settled t (set_step t set) is (change-dated t.zxid t.time t client (change.SetData set) (later t is))
+changed-settled t client (SetAcl set) is = alone-settled t (acl_step t set) is (acl_step-leaves (IsDated t.zxid t.time) t set (acl-dated t.zxid t.time t set.path (later t is)))
 changed-settled t client (Multi parts) is = together-settled t (run t client parts) is (run-dated t.zxid t.time parts t client (later t is))
 changed-settled t client (Open ticks) is =
-    either t (reply.Refused TooManySessions) (with_next_zxid (with_session t client (granted_timeout ticks)), reply.Opened (t.zxid + 1) (granted_timeout ticks)) (nat_le 1024 (finite.len t.sessions)) is
-    (settled t (with_session t client (granted_timeout ticks)) (later t is))
+    either t (reply.Refused TooManySessions) (with_next_zxid (with_session t client (granted_timeout t.limits.timeout ticks)), reply.Opened (t.zxid + 1) (granted_timeout t.limits.timeout ticks)) (nat_le t.limits.sessions (finite.len t.sessions)) is
+    (settled t (with_session t client (granted_timeout t.limits.timeout ticks)) (later t is))
 changed-settled t client (Ping session) is = either t (reply.Refused SessionGone) (with_renewed_session t session, reply.Pinged) (is_gone t.sessions client session) is is
 changed-settled t client (Close session) is =
     either t (reply.Refused SessionGone) (with_next_zxid (without_session t session), reply.Closed) (is_gone t.sessions client session) is
@@ -193,8 +207,8 @@ pub step-settled : (t : Tree) (client : ℕ) (update : Update) → IsSettled t �
 unfolding step
 step-settled t client update is = either t (reply.Refused Exhausted) (update_result t client update) (is_exhausted t update) is (changed-settled t client update is)
 
-pub opening-settled : IsSettled opening_tree
-opening-settled =
+pub opening-settled : (limits : TreeLimits) → IsSettled (opening_within limits)
+opening-settled limits =
     all_insert (IsPast 1 0) finite.empty [] (new_node [] 0 Unlimited 0 0) (no_nodes (IsPast 1 0))
     (record { older = record { czxid = lit< tt; mzxid = lit< tt; pzxid = lit< tt }; ctime = omega arith; mtime = omega arith })
 
@@ -203,8 +217,8 @@ calls-settled [] t is = is
 calls-settled (call ∷ calls) t is = calls-settled calls (step t call.0 call.1).0 (step-settled t call.0 call.1 is)
 
 pub zxids_rise : ZxidsRise
-zxids_rise calls client update path n done e =
-    let t = after_calls opening_tree calls in
-    let is = calls-settled calls opening_tree opening-settled in
+zxids_rise limits allowed calls client update path n done e =
+    let t = after_calls (opening_within limits) calls in
+    let is = calls-settled calls (opening_within limits) (opening-settled limits) in
     let next : (step t client update).0.zxid ≡ t.zxid + 1 = changes_take_one_zxid t client update ∙ ap (λ b. t.zxid + (if b then 1 else 0)) done in
     subst (λ zxid. IsOlder zxid n) (sym next) (is path n e).older

@@ -1,15 +1,18 @@
--- Laws of runs of calls from the initial tree. Each is the contract of a function in `src/laws.rt`.
+-- Laws of runs of calls from an initial tree, within any limits. Each is the contract of a function
+-- in `src/laws.rt`.
 use Rattle.std.specs.Prelude.{◌≡◌, ℕ, ◌<◌, ◌+◌, Bool, true, false, ◌&&◌, ◌||◌, List, [], ◌∷◌, ◌++◌, Some, Result, Ok, Err, if◌then◌else◌, nat_lt}
 use Rattle.std.specs.List.{IsDistinct}
 use Rattle.std.specs.Ordering.{eq_by_cmp}
 use Rattle.std.specs.FinMap as finite
 use Rattle.zpath.specs.Grammar.{path_cmp}
-use Rattle.ztree.specs.Tree.{Tree, Path, opening_tree, parent_of}
+use Rattle.ztree.specs.Limits.{AreLimits}
+use Rattle.ztree.specs.Tree.{Tree, Path, opening_within, parent_of}
+use Rattle.ztree.specs.declared.limits.TreeLimits.{TreeLimits}
 use Rattle.ztree.specs.declared.node.Node.{Node}
 use Rattle.zcalls.specs.declared.call.Part.{Part}
 use Rattle.zcalls.specs.declared.call.Part.TheVariants as part_of
 use Rattle.zcalls.specs.declared.call.Update.{Update}
-use Rattle.zcalls.specs.declared.call.Update.TheVariants.{Create, Delete, SetData, Multi, Open, Ping, Close, Tick}
+use Rattle.zcalls.specs.declared.call.Update.TheVariants.{Create, Delete, SetData, SetAcl, Multi, Open, Ping, Close, Tick}
 use Rattle.zcalls.specs.declared.refusal.Refusal.{Refusal}
 use Rattle.zcalls.specs.declared.reply.PartReply.{PartReply}
 use Rattle.zcalls.specs.declared.reply.PartReply.TheVariants as part_reply
@@ -63,14 +66,15 @@ pub record IsOlder (zxid : ℕ) (n : Node) : Type 0 where
   pub mzxid : n.mzxid < zxid
   pub pzxid : n.pzxid < zxid
 
--- after any calls from the initial tree, the zxid of a change is greater than every zxid in the
+-- after any calls from an initial tree, the zxid of a change is greater than every zxid in the
 -- tree before it
 abbrev pub ZxidsRise : Type 0
 ZxidsRise =
-    (calls : List (ℕ × Update)) (client : ℕ) (update : Update) (path : Path) (n : Node)
-    → is_change (step (after_calls opening_tree calls) client update).1 ≡ true
-    → finite.get (after_calls opening_tree calls).nodes path ≡ Some n
-    → IsOlder (step (after_calls opening_tree calls) client update).0.zxid n
+    (limits : TreeLimits) → AreLimits limits
+    → (calls : List (ℕ × Update)) (client : ℕ) (update : Update) (path : Path) (n : Node)
+    → is_change (step (after_calls (opening_within limits) calls) client update).1 ≡ true
+    → finite.get (after_calls (opening_within limits) calls).nodes path ≡ Some n
+    → IsOlder (step (after_calls (opening_within limits) calls) client update).0.zxid n
 
 -- a call takes one zxid if it makes a change, and otherwise none
 abbrev pub ChangesTakeOneZxid : Type 0
@@ -97,11 +101,13 @@ abbrev pub where_done : Run → List Done → List Done
 where_done (Err stopped) parts = []
 where_done (Ok did) parts = parts
 
--- the parts that a client's call did; session calls and ticks have none
+-- the parts that a client's call did; writes of access control lists, session calls and ticks have
+-- none
 abbrev pub update_done : Tree → ℕ → Update → List Done
 update_done t client (Create create) = parts_done t client (part_of.Create create ∷ [])
 update_done t client (Delete delete) = parts_done t client (part_of.Delete delete ∷ [])
 update_done t client (SetData set) = parts_done t client (part_of.SetData set ∷ [])
+update_done t client (SetAcl set) = []
 update_done t client (Multi parts) = where_done (run t client parts) (parts_done t client parts)
 update_done t client (Open ticks) = []
 update_done t client (Ping session) = []
@@ -143,9 +149,9 @@ sets_since path sets (part_of.Check check) answer = sets
 -- a node's version is the number of successful sets since the part that created it
 abbrev pub VersionCountsSets : Type 0
 VersionCountsSets =
-    (calls : List (ℕ × Update)) (path : Path) (n : Node)
-    → finite.get (after_calls opening_tree calls).nodes path ≡ Some n
-    → n.version ≡ through (sets_since path) 0 (calls_done opening_tree calls)
+    (limits : TreeLimits) (calls : List (ℕ × Update)) (path : Path) (n : Node)
+    → finite.get (after_calls (opening_within limits) calls).nodes path ≡ Some n
+    → n.version ≡ through (sets_since path) 0 (calls_done (opening_within limits) calls)
 
 -- The paths after one more create. A sequential node beneath `above` is added; the creation of
 -- `above` itself empties the list.
@@ -170,4 +176,5 @@ numbered_since above made (part_of.Check check) answer = made
 -- its removal
 abbrev pub NumbersDiffer : Type 0
 NumbersDiffer =
-    (calls : List (ℕ × Update)) (above : Path) → IsDistinct is_same (through (numbered_since above) [] (calls_done opening_tree calls))
+    (limits : TreeLimits) (calls : List (ℕ × Update)) (above : Path)
+    → IsDistinct is_same (through (numbered_since above) [] (calls_done (opening_within limits) calls))

@@ -6,12 +6,11 @@ use Rattle.std.specs.Option.{option_map_or}
 use Rattle.std.specs.FinMap as finite
 use Rattle.zpath.specs.First.{first_that_holds}
 use Rattle.zpath.specs.Numbered.{numbered_path, is_over}
-use Rattle.ztree.specs.Tree.{Tree, Nodes, Sessions, Path, parent_of, has_node, children, stat_of, with_node, without_node, with_data}
+use Rattle.ztree.specs.Tree.{Tree, Nodes, Sessions, Path, parent_of, has_node, children, stat_of, with_node, without_node, with_data, with_acl}
 use Rattle.ztree.specs.declared.term.Term.{Term}
 use Rattle.ztree.specs.declared.term.Term.TheVariants.{Unlimited, Timed, Container as AsContainer}
 use Rattle.ztree.specs.declared.node.Node.{Node}
 use Rattle.ztree.specs.declared.session.Session.{Session}
-use Rattle.ztree.specs.declared.limits.TheConstants.{MAX_NODES}
 use Rattle.zcalls.specs.declared.limits.TheConstants.{MAX_COUNTER}
 use Rattle.zcalls.specs.declared.call.Kind.{Kind}
 use Rattle.zcalls.specs.declared.call.Lifetime.{Lifetime}
@@ -21,6 +20,7 @@ use Rattle.zcalls.specs.declared.call.Expected.TheVariants.{Any, Exactly}
 use Rattle.zcalls.specs.declared.call.Create.{Create}
 use Rattle.zcalls.specs.declared.call.Delete.{Delete}
 use Rattle.zcalls.specs.declared.call.SetData.{SetData}
+use Rattle.zcalls.specs.declared.call.SetAcl.{SetAcl}
 use Rattle.zcalls.specs.declared.call.Check.{Check}
 use Rattle.zcalls.specs.declared.call.Part.{Part}
 use Rattle.zcalls.specs.declared.call.Part.TheVariants as part
@@ -47,10 +47,18 @@ node_has test nodes path = option_map_or test (finite.get nodes path) false
 abbrev pub is_owned : Node → Bool
 is_owned n = not (n.owner == 0)
 
+-- the number differs from the expected one
+abbrev pub is_other : Expected → ℕ → Bool
+is_other Any number = false
+is_other (Exactly version) number = not (number == version)
+
 -- the node's version differs from the expected one
 abbrev pub has_other_version : Expected → Node → Bool
-has_other_version Any n = false
-has_other_version (Exactly version) n = not (n.version == version)
+has_other_version expected n = is_other expected n.version
+
+-- the version of the node's access control list differs from the expected one
+abbrev pub has_other_acl : Expected → Node → Bool
+has_other_acl expected n = is_other expected n.aversion
 
 -- the node's counter has given its last number
 abbrev pub is_spent : Node → Bool
@@ -107,7 +115,7 @@ create_refusals t client create =
     ∷ (create.kind.is_sequential && node_has is_spent t.nodes (parent_of create.path), SequenceFull)
     ∷ (is_over (made_path t.nodes create.kind create.path), PathLimit)
     ∷ (has_node t.nodes (made_path t.nodes create.kind create.path), NodeExists)
-    ∷ (nat_le MAX_NODES (finite.len t.nodes), Full)
+    ∷ (nat_le t.limits.nodes (finite.len t.nodes), Full)
     ∷ []
 
 -- the refusals of a delete, in the order of the tests
@@ -124,10 +132,14 @@ abbrev pub unless_refused : {A : Type 0} → Option Refusal → A → Result A R
 unless_refused (Some refusal) x = Err refusal
 unless_refused None x = Ok x
 
+-- the action on a node if it exists and doesn't have another version by this test, else the refusal
+abbrev pub unless_other : {A : Type 0} → (Node → Bool) → Option Node → (Node → A) → Result A Refusal
+unless_other is_other None act = Err NoNode
+unless_other is_other (Some n) act = if is_other n then Err BadVersion else Ok (act n)
+
 -- the action on a node if it exists and has the expected version, else the refusal
 abbrev pub on_version : {A : Type 0} → Expected → Option Node → (Node → A) → Result A Refusal
-on_version expected None act = Err NoNode
-on_version expected (Some n) act = if has_other_version expected n then Err BadVersion else Ok (act n)
+on_version expected found act = unless_other (has_other_version expected) found act
 
 -- the tree with this node at the path, and the node's new stat
 abbrev pub with_node_set : Tree → Path → Node → Tree × ChangeReply
@@ -152,6 +164,12 @@ unfoldable pub set_step : Tree → SetData → Result (Tree × ChangeReply) Refu
 set_step t set =
     on_version set.version (finite.get t.nodes set.path)
     (λ n. with_node_set t set.path (with_data set.bytes (t.zxid + 1) t.time n))
+
+-- a write of one node's access control list is counted, and returns the node's new stat
+unfoldable pub acl_step : Tree → SetAcl → Result (Tree × ChangeReply) Refusal
+acl_step t set =
+    unless_other (has_other_acl set.version) (finite.get t.nodes set.path)
+    (λ n. with_node_set t set.path (with_acl n))
 
 -- a check changes nothing
 unfoldable pub check_step : Tree → Check → Result (Tree × PartReply) Refusal

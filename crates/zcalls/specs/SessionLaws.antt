@@ -3,9 +3,11 @@
 use Rattle.std.specs.Prelude.{◌≡◌, ℕ, ◌<◌, ◌≤◌, ◌+◌, ◌⊎◌, false, not, List, [], ◌∷◌, length, Option, None, Some, IsSome, if◌then◌else◌, nat_le, ◌==◌}
 use Rattle.std.specs.Option.{option_and_then}
 use Rattle.std.specs.FinMap as finite
-use Rattle.ztree.specs.Tree.{Tree, Path, opening_tree, has_node}
+use Rattle.ztree.specs.Limits.{AreLimits}
+use Rattle.ztree.specs.Tree.{Tree, Path, opening_within, has_node}
 use Rattle.ztree.specs.Sessions.{without_session, due_sessions}
 use Rattle.ztree.specs.Lawful.{IsLawful}
+use Rattle.ztree.specs.declared.limits.TreeLimits.{TreeLimits}
 use Rattle.ztree.specs.declared.session.Session.{Session}
 use Rattle.zcalls.specs.declared.call.Update.{Update}
 use Rattle.zcalls.specs.declared.call.Update.TheVariants.{Open, Ping, Close, Tick}
@@ -14,10 +16,11 @@ use Rattle.zcalls.specs.Part.{node_has}
 use Rattle.zcalls.specs.Step.{step, is_exhausted, stale_next}
 use Rattle.zcalls.specs.CallRuns.{after_calls, is_success}
 
--- after any calls from the initial tree the tree is lawful, so each owner of a node is a live
+-- after any calls from an initial tree the tree is lawful, so each owner of a node is a live
 -- session
 abbrev pub TreesAreLawful : Type 0
-TreesAreLawful = (calls : List (ℕ × Update)) → IsLawful (after_calls opening_tree calls)
+TreesAreLawful =
+    (limits : TreeLimits) → AreLimits limits → (calls : List (ℕ × Update)) → IsLawful (after_calls (opening_within limits) calls)
 
 -- the call is the close of that session by its own client
 abbrev pub IsOwnClose : ℕ → Session → ℕ → Update → Type 0
@@ -79,11 +82,12 @@ abbrev pub NeverCloses : ℕ → ℕ → List (ℕ × Update) → Type 0
 NeverCloses client id [] = Unit {0}
 NeverCloses client id (call ∷ calls) = (call.0 ≡ client → call.1 ≡ Close id → ⊥) × NeverCloses client id calls
 
--- After any calls from the initial tree, a session that its client doesn't close is alive. That
+-- After any calls from an initial tree, a session that its client doesn't close is alive. That
 -- holds while it has had fewer ticks than its timeout since its open or last ping.
 abbrev pub LivesItsTimeout : Type 0
 LivesItsTimeout =
-    (before calls : List (ℕ × Update)) (id : ℕ) (s : Session)
-    → finite.get (after_calls opening_tree before).sessions id ≡ Some s → IsFresh (after_calls opening_tree before) id
-    → NeverCloses s.client id calls → ticks_in (after_calls opening_tree before) calls < s.timeout
-    → IsSome (finite.get (after_calls (after_calls opening_tree before) calls).sessions id)
+    (limits : TreeLimits) → AreLimits limits
+    → (before calls : List (ℕ × Update)) (id : ℕ) (s : Session)
+    → finite.get (after_calls (opening_within limits) before).sessions id ≡ Some s → IsFresh (after_calls (opening_within limits) before) id
+    → NeverCloses s.client id calls → ticks_in (after_calls (opening_within limits) before) calls < s.timeout
+    → IsSome (finite.get (after_calls (after_calls (opening_within limits) before) calls).sessions id)

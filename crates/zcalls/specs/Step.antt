@@ -1,18 +1,17 @@
 -- The sequential step: what each call does to the tree, and its reply. This is the sequential
 -- specification: the service as one machine that does one call after the other. The source is the
--- ZooKeeper Programmer's Guide, "ZooKeeper Sessions" (a timeout is 2 to 20 ticks), "Ephemeral
--- Nodes" and "TTL Nodes". Which client a session belongs to, when a TTL expires, and the limits are
--- this project's profile.
+-- ZooKeeper Programmer's Guide, "ZooKeeper Sessions" (a timeout is 2 to 20 ticks unless limits are
+-- chosen), "Ephemeral Nodes", "TTL Nodes" and "ZooKeeper access control using ACLs". Which client a
+-- session belongs to, when a TTL expires, and the limits are this project's profile.
 use Rattle.std.specs.Prelude.{ℕ, ◌+◌, ◌-◌, Bool, Option, None, Some, Result, Ok, Err, if◌then◌else◌, nat_le, nat_lt, ◌||◌, false, List, length, codes}
 use Rattle.std.specs.FinMap as finite
 use Rattle.ztree.specs.Stale.{stale_nodes}
 use Rattle.ztree.specs.Tree.{Tree, Path, children, stat_of, with_next_zxid}
 use Rattle.ztree.specs.Sessions.{with_session, with_renewed_session, without_nodes, without_session, without_sessions, due_sessions, with_next_tick}
 use Rattle.ztree.specs.declared.node.Node.{Node}
-use Rattle.ztree.specs.declared.limits.TheConstants.{MAX_SESSIONS, ZXID_BOUND, TICK_BOUND}
-use Rattle.zcalls.specs.declared.limits.TheConstants.{MIN_TIMEOUT, MAX_TIMEOUT}
+use Rattle.ztree.specs.declared.limits.TheConstants.{ZXID_BOUND, TICK_BOUND, MIN_TIMEOUT}
 use Rattle.zcalls.specs.declared.call.Update.{Update}
-use Rattle.zcalls.specs.declared.call.Update.TheVariants.{Create, Delete, SetData, Multi, Open, Ping, Close, Tick}
+use Rattle.zcalls.specs.declared.call.Update.TheVariants.{Create, Delete, SetData, SetAcl, Multi, Open, Ping, Close, Tick}
 use Rattle.zcalls.specs.declared.call.Query.{Query}
 use Rattle.zcalls.specs.declared.call.Query.TheVariants as query
 use Rattle.zcalls.specs.declared.refusal.Refusal.{Refusal}
@@ -21,7 +20,7 @@ use Rattle.zcalls.specs.declared.change.ChangeReply.{ChangeReply}
 use Rattle.zcalls.specs.declared.reply.Reply.{Reply}
 use Rattle.zcalls.specs.declared.reply.Reply.TheVariants as reply
 use Rattle.zcalls.specs.Change.{reply_of}
-use Rattle.zcalls.specs.Part.{create_step, delete_step, set_step, is_gone}
+use Rattle.zcalls.specs.Part.{create_step, delete_step, set_step, acl_step, is_gone}
 use Rattle.zcalls.specs.Multi.{Run, run}
 
 -- the text shown for a refusal
@@ -57,17 +56,17 @@ abbrev pub multi_result : Tree → Run → Tree × Reply
 multi_result t (Err (number, refusal)) = (t, reply.MultiRefused number refusal)
 multi_result t (Ok (u, replies)) = (with_next_zxid u, reply.Multi replies)
 
--- the timeout granted for the one asked for: the nearest value in the range of 2 to 20 ticks
-abbrev pub granted_timeout : ℕ → ℕ
-granted_timeout ticks =
+-- the timeout granted for the one asked for: the nearest value from 2 ticks to the greatest
+abbrev pub granted_timeout : ℕ → ℕ → ℕ
+granted_timeout greatest ticks =
     if nat_lt ticks MIN_TIMEOUT then MIN_TIMEOUT else
-    if nat_lt MAX_TIMEOUT ticks then MAX_TIMEOUT else
+    if nat_lt greatest ticks then greatest else
     ticks
 
 -- a client opens a session; its id is the zxid of this change
 abbrev pub open_result : Tree → ℕ → ℕ → Tree × Reply
 open_result t client timeout =
-    if nat_le MAX_SESSIONS (finite.len t.sessions) then (t, reply.Refused TooManySessions) else
+    if nat_le t.limits.sessions (finite.len t.sessions) then (t, reply.Refused TooManySessions) else
     (with_next_zxid (with_session t client timeout), reply.Opened (t.zxid + 1) timeout)
 
 -- what a client does to its own session; any other session is refused as gone
@@ -104,8 +103,9 @@ abbrev pub update_result : Tree → ℕ → Update → Tree × Reply
 update_result t client (Create create) = change_result t (create_step t client create)
 update_result t client (Delete delete) = change_result t (delete_step t delete)
 update_result t client (SetData set) = change_result t (set_step t set)
+update_result t client (SetAcl set) = change_result t (acl_step t set)
 update_result t client (Multi parts) = multi_result t (run t client parts)
-update_result t client (Open ticks) = open_result t client (granted_timeout ticks)
+update_result t client (Open ticks) = open_result t client (granted_timeout t.limits.timeout ticks)
 update_result t client (Ping session) = session_result t client session (with_renewed_session t session, reply.Pinged)
 update_result t client (Close session) = session_result t client session (with_next_zxid (without_session t session), reply.Closed)
 update_result t client Tick = tick_result t (due_next t) (stale_next t)

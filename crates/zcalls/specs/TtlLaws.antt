@@ -6,15 +6,17 @@ use Rattle.std.specs.List.{list_any}
 use Rattle.std.specs.Ordering.{eq_by_cmp}
 use Rattle.std.specs.FinMap as finite
 use Rattle.zpath.specs.Grammar.{path_cmp}
-use Rattle.ztree.specs.Tree.{Tree, Path, opening_tree, has_node}
+use Rattle.ztree.specs.Limits.{AreLimits}
+use Rattle.ztree.specs.Tree.{Tree, Path, opening_within, has_node}
 use Rattle.ztree.specs.Stale.{may_end, is_due, is_stale}
 use Rattle.ztree.specs.Lawful.{IsPersistent, IsLawful}
 use Rattle.ztree.specs.declared.term.Term.TheVariants.{Timed}
+use Rattle.ztree.specs.declared.limits.TreeLimits.{TreeLimits}
 use Rattle.ztree.specs.declared.node.Node.{Node}
 use Rattle.ztree.specs.declared.node.Stat.{Stat}
 use Rattle.zcalls.specs.declared.call.SetData.{SetData as ToSet}
 use Rattle.zcalls.specs.declared.call.Update.{Update}
-use Rattle.zcalls.specs.declared.call.Update.TheVariants.{Create, Delete, SetData, Multi, Open, Ping, Close, Tick}
+use Rattle.zcalls.specs.declared.call.Update.TheVariants.{Create, Delete, SetData, SetAcl, Multi, Open, Ping, Close, Tick}
 use Rattle.zcalls.specs.declared.call.Part.{Part}
 use Rattle.zcalls.specs.declared.call.Part.TheVariants as part
 use Rattle.zcalls.specs.declared.reply.Reply.TheVariants as reply
@@ -41,12 +43,13 @@ SetPutsOff =
     (t : Tree) (client : ℕ) (set : ToSet) (stat : Stat)
     → (step t client (SetData set)).1 ≡ reply.Set stat → IsPutOff t.time set.path (step t client (SetData set)).0
 
--- after any calls from the initial tree, no session owns a node with a TTL or a container: it is
+-- after any calls from an initial tree, no session owns a node with a TTL or a container: it is
 -- never an ephemeral
 abbrev pub NobodyOwnsTheTimed : Type 0
 NobodyOwnsTheTimed =
-    (calls : List (ℕ × Update)) (path : Path) (n : Node)
-    → finite.get (after_calls opening_tree calls).nodes path ≡ Some n → may_end n.term ≡ true → n.owner ≡ 0
+    (limits : TreeLimits) → AreLimits limits
+    → (calls : List (ℕ × Update)) (path : Path) (n : Node)
+    → finite.get (after_calls (opening_within limits) calls).nodes path ≡ Some n → may_end n.term ≡ true → n.owner ≡ 0
 
 -- the part of a multi is a delete of the node at the path
 abbrev pub part_deletes : Path → Part → Bool
@@ -61,6 +64,7 @@ abbrev pub may_remove : Path → Update → Bool
 may_remove path (Create create) = false
 may_remove path (Delete delete) = eq_by_cmp path_cmp path delete.path
 may_remove path (SetData set) = false
+may_remove path (SetAcl set) = false
 may_remove path (Multi parts) = list_any (part_deletes path) parts
 may_remove path (Open ticks) = false
 may_remove path (Ping session) = false

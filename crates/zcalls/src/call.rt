@@ -119,6 +119,15 @@ pub struct SetData {
     pub version: Expected,
 }
 
+/// A write of a node's access control list. Each list is the open one, so this is only counted.
+#[derive(Drop)]
+pub struct SetAcl {
+    /// The path of the node.
+    pub path: Path,
+    /// The version that its list must have.
+    pub version: Expected,
+}
+
 /// A check of a node's version.
 #[derive(Drop)]
 pub struct Check {
@@ -150,6 +159,8 @@ pub enum Update {
     Delete(Delete),
     /// Writes a node's data.
     SetData(SetData),
+    /// Writes a node's access control list.
+    SetAcl(SetAcl),
     /// Does all of its parts, or none.
     Multi(Multi),
     /// Opens a session for the calling client. The argument is the timeout asked for, in ticks.

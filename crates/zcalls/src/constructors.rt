@@ -4,7 +4,9 @@ ghost use Rattle.std.specs.Prelude.{◌≡◌};
 ghost use Rattle.zcalls.specs.Part.{named};
 ghost use Rattle.zcalls.specs.declared.call.Lifetime.TheVariants.{Persistent};
 
-use crate::call::{Call, Check, Create, Delete, Expected, Kind, Lifetime, Query, SetData, Update};
+use crate::call::{
+    Call, Check, Create, Delete, Expected, Kind, Lifetime, Query, SetAcl, SetData, Update,
+};
 use crate::multi::Multi;
 use zpath::Path;
 use ztree::{Data, SessionId};
@@ -37,6 +39,15 @@ impl SetData {
             bytes,
             version,
         }
+    }
+}
+
+impl SetAcl {
+    /// A write of the access control list of a node whose list has this version.
+    pub fn new(path: Path, version: Expected) -> SetAcl
+        ensures { result ≡ record { path = path; version = version } }
+    {
+        SetAcl { path, version }
     }
 }
 
@@ -80,6 +91,14 @@ impl Call {
             (record { path = path; bytes = bytes; version = version })) }
     {
         Call::Update(Update::SetData(SetData::new(path, bytes, version)))
+    }
+
+    /// Writes the access control list of a node whose list has this version.
+    pub fn set_acl(path: Path, version: Expected) -> Call
+        ensures { result ≡ Call.Update (Update.SetAcl
+            (record { path = path; version = version })) }
+    {
+        Call::Update(Update::SetAcl(SetAcl::new(path, version)))
     }
 
     /// Does all parts, or none.

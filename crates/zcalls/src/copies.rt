@@ -2,7 +2,8 @@
 
 ghost use Rattle.std.specs.Prelude.{◌≡◌, IfOk};
 
-use crate::call::{Call, Check, Create, Delete, Part, Query, SetData, Update};
+use crate::call::{Call, Check, Create, Delete, Part, Query, SetAcl, SetData, Update};
+use crate::limits::MOST_PARTS;
 use crate::listed::{Names, Replies};
 use crate::multi::Multi;
 use crate::reply::{PartReply, Reply};
@@ -48,6 +49,18 @@ impl SetData {
     }
 }
 
+impl SetAcl {
+    /// Returns a copy of the write.
+    pub fn copied(&self) -> Result<SetAcl, Memory>
+        ensures { IfOk result (λ copy. copy ≡ self.now) }
+    {
+        Ok(SetAcl {
+            path: self.path.clone()?,
+            version: self.version,
+        })
+    }
+}
+
 impl Check {
     /// Returns a copy of the check.
     pub fn copied(&self) -> Result<Check, Memory>
@@ -80,7 +93,7 @@ impl Multi {
         ensures { IfOk result (λ copy. copy ≡ self.now) }
     {
         let parts = copied_parts(alloc, self.as_slice())?;
-        match Multi::new(parts) {
+        match Multi::within(parts, MOST_PARTS) {
             Ok(multi) => Ok(multi),
             Err(_) => unreachable!(),
         }
@@ -106,6 +119,7 @@ impl Update {
             Update::Create(wanted) => Ok(Update::Create(wanted.copied()?)),
             Update::Delete(wanted) => Ok(Update::Delete(wanted.copied()?)),
             Update::SetData(wanted) => Ok(Update::SetData(wanted.copied()?)),
+            Update::SetAcl(wanted) => Ok(Update::SetAcl(wanted.copied()?)),
             Update::Multi(multi) => Ok(Update::Multi(multi.copied(alloc)?)),
             Update::Open(timeout) => Ok(Update::Open(*timeout)),
             Update::Ping(session) => Ok(Update::Ping(*session)),

@@ -5,6 +5,7 @@ ghost use Rattle.zcalls.specs.Cached.{Plain, PlainStep};
 ghost use Rattle.zcalls.specs.CachedLaws.{FirstEntriesAct, RetryChangesNothing, KeptNumbersRise, LowNumbersChangeNothing};
 ghost use Rattle.zcalls.specs.CachedLaws.{NoCallActsTwice, RepliesAreOfActs, RepliesStayUntilTheNext, OnlyActsCount, SameReplyEachTime};
 ghost use Rattle.zcalls.specs.Laws.{RefusedChangesNothing, RefusedMultiChangesNothing, CountsTheNames, ListsInOrder};
+ghost use Rattle.zcalls.specs.Laws.{LimitsStay, AclIsCounted};
 ghost use Rattle.zcalls.specs.SessionLaws.{TreesAreLawful, EndsOnlySo, TickEndsTheDue, EndTakesItsOwn, OpenAndPingRenew, LivesItsTimeout};
 ghost use Rattle.zcalls.specs.TtlLaws.{TickRemovesTheStale, SetPutsOff, NobodyOwnsTheTimed, LastsUntilRemoved, TickTakesOneZxid};
 
@@ -13,6 +14,16 @@ ghost use Rattle.zcalls.specs.TtlLaws.{TickRemovesTheStale, SetPutsOff, NobodyOw
 pub fn refused_calls_change_nothing()
     ensures call { RefusedChangesNothing }
     ensures multi { RefusedMultiChangesNothing }
+{}
+
+/// No call changes the limits of the tree.
+pub fn limits_stay()
+    ensures { LimitsStay }
+{}
+
+/// A successful write of an access control list counts it at its node, and changes no other node.
+pub fn acl_writes_are_counted()
+    ensures { AclIsCounted }
 {}
 
 /// The number of children in a node's stat is the number of names listed for it.
@@ -25,7 +36,7 @@ pub fn names_are_in_order()
     ensures { ListsInOrder }
 {}
 
-/// After any calls from the initial tree, the zxid of a change is greater than every czxid, mzxid
+/// After any calls from an initial tree, the zxid of a change is greater than every czxid, mzxid
 /// and pzxid before it.
 pub fn zxids_rise()
     ensures { ZxidsRise }
@@ -37,19 +48,19 @@ pub fn changes_take_one_zxid()
     ensures { ChangesTakeOneZxid }
 {}
 
-/// After any calls from the initial tree, a node's version is the number of successful sets since
+/// After any calls from an initial tree, a node's version is the number of successful sets since
 /// its creation. The parts of a successful multi count one by one.
 pub fn versions_count_sets()
     ensures { VersionCountsSets }
 {}
 
-/// After any calls from the initial tree, two sequential creates beneath one node never make the
+/// After any calls from an initial tree, two sequential creates beneath one node never make the
 /// same name. That holds from the node's creation until its removal.
 pub fn numbers_differ()
     ensures { NumbersDiffer }
 {}
 
-/// After any calls from the initial tree, the tree is lawful: no ephemeral outlives its session.
+/// After any calls from an initial tree, the tree is lawful: no ephemeral outlives its session.
 pub fn trees_are_lawful()
     ensures { TreesAreLawful }
 {}
@@ -94,13 +105,13 @@ pub fn a_set_puts_off()
     ensures { SetPutsOff }
 {}
 
-/// After any calls from the initial tree, a node with a TTL or a container is not an ephemeral.
+/// After any calls from an initial tree, a node with a TTL or a container is not an ephemeral.
 pub fn nobody_owns_the_timed()
     ensures { NobodyOwnsTheTimed }
 {}
 
-/// A node without an owner, such as one with a TTL or a container, disappears only by a delete of it
-/// or a tick.
+/// A node without an owner, such as one with a TTL or a container, disappears only by a delete of
+/// it or a tick.
 pub fn the_unowned_last()
     ensures { LastsUntilRemoved }
 {}

@@ -26,14 +26,15 @@ mod rows;
 mod shared_entry;
 
 pub use call::{
-    Call, Check, Create, Delete, Entry, Expected, Kind, Lifetime, Part, Query, SetData, Update,
+    Call, Check, Create, Delete, Entry, Expected, Kind, Lifetime, Part, Query, SetAcl, SetData,
+    Update,
 };
 pub use call_number::CallNumber;
 pub use change::{Change, ChangeReply};
-pub use limits::{MAX_CALL_NUMBER, MAX_PARTS};
+pub use limits::{MAX_CALL_NUMBER, MAX_PARTS, MOST_PARTS};
 pub use listed::{Names, Replies};
 pub use multi::Multi;
 pub use refusal::Refusal;
 pub use reply::{PartReply, Reply};
 pub use shared_entry::SharedEntry;
-pub use ztree::{ClientId, Data, DataFault, SessionId, Stat, Term, Ttl};
+pub use ztree::{ClientId, Data, DataFault, SessionId, Stat, Term, TreeLimits, Ttl};

@@ -2,7 +2,7 @@
 //!
 //! # Why
 //! No refusal guards a node's version or cversion. Zxids stay below 2^40 (`Exhausted`), and one
-//! change raises each at most 4,096 times. So no counter overflows.
+//! change raises each at most 2^21 times. So no counter overflows.
 
 use std::fmt;
 use thiserror::Error;
@@ -28,9 +28,9 @@ pub enum Refusal {
     PathLimit,
     /// The root can't be deleted.
     RootFixed,
-    /// The tree already has 4,096 nodes.
+    /// The tree already has as many nodes as its limits allow.
     Full,
-    /// There are already 1,024 sessions.
+    /// There are already as many sessions as the tree's limits allow.
     TooManySessions,
     /// The last zxid has been used up; or, for a tick, the last tick.
     Exhausted,

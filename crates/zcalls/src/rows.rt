@@ -7,7 +7,7 @@ ghost use Rattle.ztree.specs.declared.term.Term.TheVariants.{Unlimited, Timed, C
 ghost use Rattle.ztree.specs.Tree.{Tree, opening_tree};
 ghost use Rattle.ztree.specs.Sessions.{with_next_tick};
 ghost use Rattle.zcalls.specs.declared.call.Lifetime.TheVariants.{Persistent, WithTtl, Ephemeral, Container};
-ghost use Rattle.zcalls.specs.declared.limits.TheConstants.{MAX_PARTS, MAX_COUNTER, MIN_TIMEOUT, MAX_TIMEOUT};
+ghost use Rattle.zcalls.specs.declared.limits.TheConstants.{MAX_PARTS, MOST_PARTS, MAX_COUNTER};
 ghost use Rattle.zcalls.specs.declared.limits.TheConstants.{MAX_CALL_NUMBER, MAX_RAISES};
 ghost use Rattle.zcalls.specs.declared.call.Expected.TheVariants.{Any, Exactly};
 ghost use Rattle.zcalls.specs.declared.call.Query.{Query};
@@ -19,15 +19,17 @@ ghost use Rattle.zcalls.specs.declared.reply.Reply.TheVariants as reply;
 ghost use Rattle.zcalls.specs.declared.reply.Reply.TheVariants.{Refused, MultiRefused};
 ghost use Rattle.zcalls.specs.CallRuns.{is_success, is_change};
 ghost use Rattle.zcalls.specs.PlainTree.{plain_tree};
-ghost use Rattle.zcalls.specs.Part.{has_other_version, is_spent};
+ghost use Rattle.zcalls.specs.Part.{has_other_version, has_other_acl, is_spent};
 ghost use Rattle.zcalls.specs.Part.{named, sequential, owner_of, term_of};
 ghost use Rattle.zcalls.specs.Multi.{run};
 ghost use Rattle.zcalls.specs.Step.{step, query_reply, is_exhausted, multi_result, tick_result};
+ghost use Rattle.zcalls.specs.Step.{granted_timeout};
 ghost use Rattle.zcalls.specs.support.Counting.{after, creates, deletes, reported, reported_no, seven, third_kept};
 ghost use Rattle.zcalls.specs.support.Counting.{with_eighth, one, created, refused};
 ghost use Rattle.zcalls.specs.support.Rows.{CreatesAreTested, order_of_creates, DeletesAreTested};
 ghost use Rattle.zcalls.specs.support.Rows.{IsRefusedWhere, FirstIsRefused, FirstIsChecked};
 ghost use Rattle.zcalls.specs.support.Rows.{HasNode, IsChildless, get_a};
+ghost use Rattle.zcalls.specs.support.Rows.{set_acl_a, acl_stat};
 ghost use Rattle.zcalls.specs.support.Rows.{delete_a, set_a, sevens, childless_stat, without_a, deleted_a};
 ghost use Rattle.zcalls.specs.support.Rows.{without_7, only_7, only_a, ticked, leaves};
 
@@ -85,6 +87,25 @@ pub fn versions_are_tested()
     ensures delete { (t : Tree) → HasNode t → IsChildless t → delete_a t 6 ≡ Ok (deleted_a t) }
     ensures delete_of_another { (t : Tree) → HasNode t → delete_a t 8 ≡ Err BadVersion }
     ensures set_of_another { (t : Tree) → HasNode t → set_a t 8 ≡ Err BadVersion }
+{}
+
+/// A write of an access control list is done only if the list has the version that it names. The
+/// node of the examples has one of version 13, and it shows 14 then.
+pub fn lists_are_tested()
+    ensures any { has_other_acl Any some_node ≡ false }
+    ensures same { has_other_acl (Exactly 13) some_node ≡ false }
+    ensures data_version { has_other_acl (Exactly 6) some_node ≡ true }
+    ensures other { (t : Tree) → HasNode t → set_acl_a t 6 ≡ Err BadVersion }
+    ensures none { (t : Tree) → get t.nodes at_a ≡ None → set_acl_a t 13 ≡ Err NoNode }
+    ensures stat { acl_stat ≡ record childless_stat { aversion = 14 } }
+{}
+
+/// The timeouts that are granted where the greatest one is 20 ticks, and where it is 100.
+pub fn timeouts_are_granted()
+    ensures short { granted_timeout 20 1 ≡ 2 }
+    ensures inside { granted_timeout 20 7 ≡ 7 }
+    ensures long { granted_timeout 20 21 ≡ 20 }
+    ensures chosen { granted_timeout 100 21 ≡ 21 }
 {}
 
 /// Results: the data and the stat of a node, and the part of a multi that was refused. Also,
@@ -151,9 +172,8 @@ pub fn lifetimes_and_kinds()
 /// The limits as numbers.
 pub fn limits_are_numbers()
     ensures parts { MAX_PARTS ≡ 64 }
+    ensures most_parts { MOST_PARTS ≡ 1024 }
     ensures counter { MAX_COUNTER ≡ 2147483647 }
-    ensures least_timeout { MIN_TIMEOUT ≡ 2 }
-    ensures greatest_timeout { MAX_TIMEOUT ≡ 20 }
     ensures call_number { MAX_CALL_NUMBER ≡ 4611686018427387903 }
-    ensures raises { MAX_RAISES ≡ 4096 }
+    ensures raises { MAX_RAISES ≡ 2097152 }
 {}

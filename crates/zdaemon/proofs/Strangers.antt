@@ -1,7 +1,8 @@
 -- What a server behind a guard does with messages, as steps of a front behind a guard.
 use Rattle.std.proofs.Common.{◌≡◌, ◌⊎◌, inl, inr, ℕ, List, [], ◌∷◌, ◌++◌, append_assoc, Bool, true, false, Option, None, Some, if◌then◌else◌, refl, ap, subst, sym, ◌∙◌}
 use Rattle.std.specs.Option.{option_map_or}
-use Rattle.ztree.specs.Tree.{opening_tree, Tree}
+use Rattle.ztree.specs.Tree.{opening_within, Tree}
+use Rattle.zstore.specs.Restored.{with_limits}
 use Rattle.zresponses.specs.declared.clock.Clock.{Clock}
 use Rattle.zwatches.specs.declared.limits.WatchLimits.{WatchLimits}
 use Rattle.zconnections.specs.buffers.Inputs.{InputView}
@@ -149,7 +150,7 @@ no_stranger law logins limits t secret times is_kept messages first old c bytes 
 
 pub no_stranger_in_memory : NoStrangerMakesACall → NoStrangerInMemory
 no_stranger_in_memory law secret asked logins messages outputs first old c bytes new begins served =
-    no_stranger law logins asked.limits opening_tree secret (record { tick = asked.tick; started = asked.now; base = base_at asked.now }) false
+    no_stranger law logins asked.limits (opening_within asked.tree) secret (record { terms = asked.terms; started = asked.now; base = base_at asked.now }) false
     messages _ _ c bytes new
     (no_steps _ _ (ap (λ (s : ServerView). seen_as (guard_of logins) s.front) begins))
     (ran TakesInMemory KeepsInMemory ReportsInMemory HasReportedInMemory (λ s. s.front) (λ before input after does. does)
@@ -171,7 +172,9 @@ chunk_is {D} old new chunk = by (reports old)
 
 module _ {R : Type 0} (secret : List ℕ) (asked : HostedSettings) (kept : FolderSettings) (first : InFolder (FileDevice R)) (begins : BeginsInFolder secret asked kept first) where
   abbrev opened : FrontView
-  opened = beginning asked.limits begins.begins.tree secret (clock_at asked.tick asked.now begins.begins.tree.time) true
+  opened =
+      beginning asked.limits (with_limits begins.begins.opened.found asked.tree) secret
+      (clock_at asked.terms asked.now begins.begins.opened.found.time) true
 
   opened_is : front_in begins.first ≡ opened
   opened_is = ap (λ (s : ServerView). s.front) begins.begins.front
@@ -193,7 +196,8 @@ module _ {R : Type 0} (secret : List ℕ) (asked : HostedSettings) (kept : Folde
 
 pub no_stranger_in_folder : (R : Type 0) → NoStrangerMakesACall → NoStrangerInFolder R
 no_stranger_in_folder R law secret asked kept logins messages outputs first old c bytes new begins served =
-    no_stranger law logins asked.limits begins.begins.tree secret (clock_at asked.tick asked.now begins.begins.tree.time) true
+    no_stranger law logins asked.limits (with_limits begins.begins.opened.found asked.tree) secret
+    (clock_at asked.terms asked.now begins.begins.opened.found.time) true
     messages _ _ c bytes new
     (opening_steps secret asked kept first begins logins)
     (ran (TakesIn seen_of MayLeaveOf) (KeepsIn seen_of MayLeaveOf) ReportsIn HasReportedIn (λ s. front_in s.kept)

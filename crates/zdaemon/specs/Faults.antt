@@ -11,6 +11,8 @@ use Rattle.zjournal.specs.declared.fault.OpenError.{OpenError}
 use Rattle.zjournal.specs.declared.fault.OpenError.TheVariants as file
 use Rattle.zdurable.specs.declared.fault.OpenFault.{OpenFault}
 use Rattle.zdurable.specs.declared.fault.OpenFault.TheVariants as opening
+use Rattle.zdurable.specs.declared.fault.DurableFault.{DurableFault}
+use Rattle.zdurable.specs.declared.fault.DurableFault.TheVariants as ending
 use Rattle.zlogins.specs.declared.fault.LoginsFault.{LoginsFault}
 use Rattle.zlogins.specs.declared.fault.LoginsFault.TheVariants as logins
 use Rattle.zdaemon.specs.declared.pipe.fault.ServeFault.{ServeFault}
@@ -34,10 +36,16 @@ file_status file.Memory = 1
 file_status file.Failed = 4
 file_status fault = 3
 
+abbrev pub renewal_status : DurableFault → ℕ
+renewal_status ending.Memory = 1
+renewal_status fault = 4
+
 abbrev pub service_status : OpenFault → ℕ
 service_status opening.Memory = 1
 service_status (opening.Journal fault) = file_status fault
 service_status opening.NotRecords = 3
+service_status (opening.Limits fault) = 3
+service_status (opening.Renewal fault) = renewal_status fault
 
 abbrev pub serve_status : ServeFault → ℕ
 serve_status serving.Disk = 4
@@ -74,6 +82,7 @@ is_of_memory (Logins logins.Memory) = true
 is_of_memory (Folder folder.Memory) = true
 is_of_memory (Service opening.Memory) = true
 is_of_memory (Service (opening.Journal file.Memory)) = true
+is_of_memory (Service (opening.Renewal ending.Memory)) = true
 is_of_memory fault = false
 
 -- any other fault. None: what is wrong with a file's content has many texts, and so has what is

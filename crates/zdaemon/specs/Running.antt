@@ -4,9 +4,9 @@
 -- had some content, and what was done with it. That this file is the folder's is believed of
 -- `FileDevice::open`.
 use Rattle.std.specs.Prelude.{◌≡◌, ◌⊎◌, ℕ, false, List, [], ◌∷◌, ◌++◌, length, Option, None, Some}
-use Rattle.ztree.specs.Tree.{Tree, opening_tree}
+use Rattle.ztree.specs.Tree.{opening_within}
+use Rattle.zstore.specs.Restored.{with_limits}
 use Rattle.zdevices.specs.Device.{SourceRun, SinkRun}
-use Rattle.zjournal.specs.Journal.{Represents}
 use Rattle.zjournal.specs.declared.file.device.FileDevice.{FileDevice}
 use Rattle.zjournal.specs.declared.file.mode.SyncMode.{SyncMode}
 use Rattle.zjournal.specs.declared.file.mode.SyncMode.TheVariants.{Batch}
@@ -15,7 +15,8 @@ use Rattle.zjournal.specs.file.File.{events_of, had_failed_of, mode_of, seen_of,
 use Rattle.zfront.specs.Inputs.{ServerView}
 use Rattle.zfront.specs.Restoring.{beginning}
 use Rattle.zdurable.specs.declared.kept.DurableFront.{DurableFront}
-use Rattle.zdurable.specs.DurableFront.{IsServing, compacted_size, disk_of}
+use Rattle.zdurable.specs.DurableFront.{disk_of}
+use Rattle.zdurable.specs.Opening.{IsOpenedWithin}
 use Rattle.zdurable.specs.Restored.{restored}
 use Rattle.zdaemon.specs.Asked.{IsAsked}
 use Rattle.zdaemon.specs.Bases.{base_at}
@@ -37,10 +38,12 @@ GaveAfter secret text source bytes = (length secret ≡ 32) × IsShort text × s
 -- ---- in memory
 
 -- a new front end: an empty tree, at this time, with the base of zxids of this start, and with the
--- limits that are asked for
+-- terms and limits that are asked for
 abbrev pub new_front : List ℕ → HostedSettings → ServerView
 new_front secret asked = record {
-  front = beginning asked.limits opening_tree secret (record { tick = asked.tick; started = asked.now; base = base_at asked.now }) false;
+  front =
+      beginning asked.limits (opening_within asked.tree) secret
+      (record { terms = asked.terms; started = asked.now; base = base_at asked.now }) false;
   is_broken = false;
 }
 
@@ -59,15 +62,11 @@ module _ {R : Type 0} where
   abbrev pub IsOpened : SyncMode → FileDevice R → Type 0
   IsOpened mode device = (mode_of device ≡ mode) × (events_of device ≡ held (seen_of device) ∷ [])
 
-  -- a server begins with the tree of this device's file, at this time, with the limits that are asked
-  -- for
+  -- a server begins with the tree of this device's file, at this time, with the terms and limits
+  -- that are asked for
   pub record BeginsWith (device : FileDevice R) (secret : List ℕ) (asked : HostedSettings) (kept : FolderSettings) (first : DurableFront (FileDevice R)) : Type 0 where
-    pub batches : List (List ℕ)
-    pub tree : Tree
-    pub stands : Represents kept.last batches (seen_of device)
-    pub serving : IsServing seen_of MayLeaveOf kept.last batches tree first
-    pub front : first.front ≡ restored asked.limits secret asked.tick asked.now tree
-    pub measured : compacted_size first ≡ 0
+    pub opened : IsOpenedWithin seen_of MayLeaveOf kept.last (seen_of device) asked.tree first
+    pub front : first.front ≡ restored asked.limits secret asked.terms asked.now (with_limits opened.found asked.tree)
 
   -- and that device has the mode that is asked for; where a sync had failed before, its journal is
   -- then written anew

@@ -6,7 +6,7 @@ use crate::pipe::ServeFault;
 use std::fmt;
 use thiserror::Error;
 use zarguments::WordsFault;
-use zdurable::OpenFault;
+use zdurable::{DurableFault, LimitFault, OpenFault};
 use zguard::LoginsFault;
 use zjournal::OpenError;
 use zjournal::file::FileFault;
@@ -35,7 +35,8 @@ impl HostedFault {
 
     /// Returns the exit status that a program ends with. 1: memory ran out, or the input or the
     /// output failed. 2: its words, or the logins. 3: a folder that isn't opened, has no journal,
-    /// or is a script's. 4: a disk that failed, or a journal that is full.
+    /// is a script's, or doesn't fit within the limits. 4: a disk that failed, or a journal that is
+    /// full.
     pub fn status(self) -> u8
         ensures { result ≡ hosted_fault_status self }
     {
@@ -49,6 +50,8 @@ impl HostedFault {
             HostedFault::Service(OpenFault::Memory) => 1,
             HostedFault::Service(OpenFault::Journal(OpenError::Memory)) => 1,
             HostedFault::Service(OpenFault::Journal(OpenError::Failed)) => 4,
+            HostedFault::Service(OpenFault::Renewal(DurableFault::Memory)) => 1,
+            HostedFault::Service(OpenFault::Renewal(_)) => 4,
             HostedFault::Service(_) => 3,
             HostedFault::Serve(ServeFault::Disk | ServeFault::Full | ServeFault::Ended) => 4,
             HostedFault::Serve(_) => 1,
@@ -63,7 +66,8 @@ impl HostedFault {
             HostedFault::Logins(LoginsFault::Memory)
             | HostedFault::Folder(FileFault::Memory)
             | HostedFault::Service(OpenFault::Memory)
-            | HostedFault::Service(OpenFault::Journal(OpenError::Memory)) => true,
+            | HostedFault::Service(OpenFault::Journal(OpenError::Memory))
+            | HostedFault::Service(OpenFault::Renewal(DurableFault::Memory)) => true,
             _ => false,
         }
     }
@@ -82,6 +86,10 @@ impl fmt::Display for HostedFault {
             HostedFault::Words(fault) => f.write_str(fault.text()),
             HostedFault::Logins(fault) => write!(f, "zk: --auth: {fault}"),
             HostedFault::Folder(fault) => write!(f, "zk: data: {fault}"),
+            HostedFault::Service(OpenFault::Limits(fault)) => {
+                f.write_str("zk: data: ")?;
+                write_limit(fault, f)
+            }
             HostedFault::Service(fault) => write!(f, "zk: data: {fault}"),
             HostedFault::Serve(fault) => write!(f, "zk: {fault}"),
             HostedFault::Missing => f.write_str("zk: data: there is no journal"),
@@ -89,6 +97,16 @@ impl fmt::Display for HostedFault {
                 f.write_str("zk: data: a script's folder, and no server's: its file is its script")
             }
         }
+    }
+}
+
+// Writes which word a tree needs more of, and how much.
+fn write_limit<W: fmt::Write>(fault: &LimitFault, f: &mut fmt::Formatter<W>) -> fmt::Result {
+    match fault {
+        LimitFault::Nodes(count) => write!(f, "it needs --nodes {count} or more"),
+        LimitFault::Sessions(count) => write!(f, "it needs --sessions {count} or more"),
+        LimitFault::Timeout(ticks) => write!(f, "it needs --max-session {ticks} or more"),
+        LimitFault::NotLimits | LimitFault::Memory => write!(f, "{fault}"),
     }
 }
 

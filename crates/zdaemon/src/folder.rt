@@ -59,8 +59,8 @@ impl<D: Device> Service for InFolder<D> {
     }
 }
 
-// Commits the changes: in a new file if the journal is long and there is room for it, and else by one
-// more block.
+// Commits the changes: in a new file if the journal is long and there is room for it, and else by
+// one more block.
 fn keep<D: Device>(kept: &mut DurableFront<D>, long: usize) -> Result<(), DurableFault>
     requires { IsGood D.seen D.may_leave kept.old }
     ensures keeps { OnOk result (Keeps D.seen D.may_leave long kept.old kept.new) }

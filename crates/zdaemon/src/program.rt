@@ -2,6 +2,7 @@
 
 ghost use Rattle.std.specs.Prelude.{◌≡◌, ◌≤◌, ◌<◌, [], ◌∷◌, IfOk, OnOk};
 ghost use Rattle.std.specs.Option.{option_map};
+ghost use Rattle.ztree.specs.Limits.{AreLimits};
 ghost use Rattle.zarguments.specs.Asked.{texts_of};
 ghost use Rattle.zdevices.specs.Device.{Between, sink_run, source_run};
 ghost use Rattle.zjournal.specs.declared.file.mode.SyncMode.TheVariants.{Batch};
@@ -210,14 +211,15 @@ fn in_memory(
     asked: HostedSettings,
     secret: Secret,
 ) -> Result<Front<LocalTree>, ServeFault>
+    requires { AreLimits asked.tree }
     ensures { IfOk result (λ front. front ≡ new_front secret asked) }
 {
     let clock = Clock {
-        tick: asked.tick,
+        terms: asked.terms,
         started: asked.now,
         base: base_at(asked.now),
     };
-    let tree = LocalTree::new(alloc)?;
+    let tree = LocalTree::within(alloc, asked.tree)?;
     Ok(Front::new(alloc, tree, secret, clock, asked.limits, false)?)
 }
 
@@ -238,8 +240,10 @@ fn in_folder<R: Files<File = File> + Copy, F: Sink>(
     let device = FileDevice::open(alloc, files, folder, kept.mode)?;
     device.remove_unfinished();
     report_opening(alloc, device.mode(), device.waiting(), faults);
-    let (tick, now, limits) = (asked.tick, asked.now, asked.limits);
-    match DurableFront::open(alloc, device, kept.last, secret, tick, now, limits) {
+    let (terms, now, watches, limits) = (asked.terms, asked.now, asked.limits, asked.tree);
+    match DurableFront::open(
+        alloc, device, kept.last, secret, terms, now, watches, limits,
+    ) {
         Ok(opened) => {
             let mut front = opened.kept;
             report_saved(alloc, front.device(), faults);

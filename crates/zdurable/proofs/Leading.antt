@@ -20,8 +20,8 @@ leads_to t v has =
     ∙ ap (λ (u : Tree). after u v.made) (sym has.all)
 
 pub what_is_kept_stands_in_a_log : WhatIsKeptStandsInALog
-what_is_kept_stands_in_a_log t v has before leaves = (
-  every_front_is_one_tree has.limits has.start has.secret has.times true before has.steps v leaves has.runs,
+what_is_kept_stands_in_a_log t v has start before leads = (
+  every_front_is_one_tree has.limits has.start has.secret has.times true start before has.steps v leads has.runs,
   has.all,
   every_change_is_made has.limits has.start has.secret has.times has.steps v has.runs,
   leads_to t v has,

@@ -3,7 +3,9 @@ pub mod Incarnations
 pub mod Laws
 pub mod Restored
 pub mod DurableFront
+pub mod Opening
 pub mod Compaction
 pub mod Faults
 pub mod Looking
 pub mod Stored
+pub mod support

@@ -8,6 +8,7 @@ use thiserror::Error;
 use zalloc::Memory;
 use zjournal::{OpenError, PutError};
 use zsnapshots::folder::ReadFault;
+use ztree_service::LimitFault;
 
 /// Why a service isn't opened.
 #[derive(Clone, Copy, Debug, PartialEq, Eq, Error)]
@@ -21,6 +22,13 @@ pub enum OpenFault {
     /// The journal doesn't hold changes, or a snapshot and changes after it. The file is unchanged.
     #[error("not a journal of changes")]
     NotRecords,
+    /// The tree doesn't fit within the chosen limits. The file is unchanged.
+    #[error("{0}")]
+    Limits(LimitFault),
+    /// The tree has other limits than those chosen, and the file with these isn't made. The file is
+    /// the old one or that one.
+    #[error("{0}")]
+    Renewal(DurableFault),
 }
 
 /// Why an input isn't taken, or changes aren't made durable. The service has ended.
@@ -61,6 +69,20 @@ impl From<ReadFault> for OpenFault {
         match cause {
             ReadFault::Memory => OpenFault::Memory,
             ReadFault::NotRecords => OpenFault::NotRecords,
+        }
+    }
+}
+
+impl From<LimitFault> for OpenFault {
+    ghost use Rattle.zdurable.specs.Faults.{limit_fault};
+    ghost use Rattle.std.specs.Prelude.{◌≡◌};
+
+    ghost from_gives = { λ cause e. e ≡ limit_fault cause };
+
+    fn from(cause: LimitFault) -> Self {
+        match cause {
+            LimitFault::Memory => OpenFault::Memory,
+            cause => OpenFault::Limits(cause),
         }
     }
 }

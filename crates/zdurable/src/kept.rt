@@ -14,25 +14,31 @@ ghost use Rattle.zjournal.specs.Journal.{IsAtRest, IsWithOrWithout, Represents, 
 ghost use Rattle.zjournal.specs.Journal as state;
 ghost use Rattle.zjournal.specs.Puts as puts;
 ghost use Rattle.zfront.specs.Restoring.{all_taken};
-ghost use Rattle.zdurable.specs.Faults.{disk_failed, IsFull, IsLeftBy, IsOfReading, IsSuchFile};
+ghost use Rattle.zjournal.specs.Scan.{joined};
+ghost use Rattle.zstore.specs.Restored.{with_limits};
+ghost use Rattle.zdurable.specs.Faults.{disk_failed, IsFull, IsLeftBy, IsOfReading};
+ghost use Rattle.zdurable.specs.Faults.{IsSuchFileWithin};
+ghost use Rattle.zdurable.specs.Opening.{IsFoundOrWithin, IsOpenedWithin};
 ghost use Rattle.zdurable.specs.DurableFront.{disk_of, front_in, made_in, more_if, compacted_size};
 ghost use Rattle.zdurable.specs.DurableFront.{IsOpen, IsServing, IsSound};
 ghost use Rattle.zdurable.specs.Looking.{ReportsOfPasswords};
 ghost use Rattle.zdurable.specs.Restored.{restored};
 ghost use Rattle.zsnapshots.specs.folder.Entries.{entries_text};
 ghost use Rattle.zsnapshots.specs.folder.States.{after};
+ghost use Rattle.zsnapshots.specs.folder.Texts.{IsTextOf};
 
 use crate::fault::{DurableFault, OpenFault};
 use crate::looking::look;
 use crate::opened::Opened;
 use crate::restored::restored;
+use crate::within::{limited, measure_if, open_within};
 use crate::writing::written;
 use std::alloc::Global;
-use zfront::{Front, Secret, TickLength, WatchLimits};
+use zfront::{Front, Secret, Terms, WatchLimits};
 use zjournal::{Device, Journal, PutError};
 use zprotocol::ServerId;
 use zsnapshots::folder::Found;
-use ztree_service::LocalTree;
+use ztree_service::{LocalTree, TreeLimits};
 
 /// A server for ZooKeeper's clients whose changes are made durable.
 ///
@@ -43,48 +49,51 @@ pub struct DurableFront<D: Device> {
     pub(crate) alloc: Global,
     pub(crate) front: Front<LocalTree>,
     pub(crate) journal: Journal<D>,
-    // The bytes of the file after its last compaction, and 0 before. Half of its bytes at a later one
-    // that was postponed.
+    // The bytes of the file after its last compaction, or 0 if there was none. Half of its bytes at
+    // a later one that was postponed.
     pub(crate) shortened: usize,
     pub(crate) is_open: bool,
 }
 
 impl<D: Device> DurableFront<D> {
     /// Opens the service of a file that a crash may have left, or of a new one. Its front end
-    /// begins with the tree that the file holds, and with these limits of watches. If reading
-    /// fails, the file is unchanged. A crash while opening leaves a file with the same tree. The
-    /// tree's time is `now_ms` now, in milliseconds since 1970. An `Err` returns the device.
+    /// begins with the tree that the file holds, with these terms and limits of watches. If the
+    /// tree has other limits than these, a file with the tree within these replaces the old one
+    /// first. If reading fails, or the tree doesn't fit within these, the file is unchanged. A crash
+    /// while opening leaves a file with the same tree, within its limits or these. The tree's time
+    /// is `now_ms` now, in milliseconds since 1970. An `Err` returns the device.
     pub fn open(
         alloc: Global,
         device: D,
         servers: ServerId,
         secret: Secret,
-        tick: TickLength,
+        terms: Terms,
         now_ms: u64,
-        limits: WatchLimits,
+        watches: WatchLimits,
+        limits: TreeLimits,
     ) -> Result<Opened<D>, (OpenFault, D)>
         // After a restart, a read returns what is durable.
         requires durable { Only (D.seen device) (D.may_leave device) }
-        ensures serving { IfOk result (λ opened. (batches : List (List ℕ)) × (t : Tree)
-            × Represents servers batches (D.seen device)
-            × IsServing D.seen D.may_leave servers batches t opened.kept
-            × (opened.kept.front ≡ restored limits secret tick now_ms t)) }
+        ensures serving { IfOk result (λ opened.
+            (is : IsOpenedWithin D.seen D.may_leave servers (D.seen device) limits opened.kept)
+            × (opened.kept.front
+            ≡ restored watches secret terms now_ms (with_limits is.found limits))) }
         ensures open { IfOk result (λ opened. IsOpen opened.kept) }
         ensures sound { IfOk result (λ opened. IsSound D.seen D.may_leave opened.kept) }
-        ensures measured { IfOk result (λ opened. compacted_size opened.kept ≡ 0) }
         ensures passwords { IfOk result (λ opened.
             ReportsOfPasswords servers (D.seen device) opened.had_passwords) }
-        ensures any_moment { (batches : List (List ℕ)) → Represents servers batches (D.seen device)
+        ensures any_moment { (batches : List (List ℕ)) (found : Tree)
+            → Represents servers batches (D.seen device) → IsTextOf found (joined batches)
             → IfOk result (λ opened. LeavesOnly D.moment D.left_since device (disk_of opened.kept)
-            (Represents servers batches)) }
-        ensures any_moment_err { (batches : List (List ℕ))
-            → Represents servers batches (D.seen device)
+            (IsFoundOrWithin servers batches found limits)) }
+        ensures any_moment_err { (batches : List (List ℕ)) (found : Tree)
+            → Represents servers batches (D.seen device) → IsTextOf found (joined batches)
             → IfErr result (λ e. LeavesOnly D.moment D.left_since device e.1
-            (Represents servers batches)) }
+            (IsFoundOrWithin servers batches found limits)) }
         ensures untouched { IfErr result (λ e. IsOfReading e.0
             → (D.seen e.1 ≡ D.seen device)
             × LeavesOnly D.moment D.left_since device e.1 (λ c. c ≡ D.seen device)) }
-        ensures fault { IfErr result (λ e. IsSuchFile servers (D.seen device) e.0) }
+        ensures fault { IfErr result (λ e. IsSuchFileWithin limits servers (D.seen device) e.0) }
         ensures failed { IfErr result (λ e. e.0 ≡ disk_failed → D.faults device < D.faults e.1) }
     {
         let mut device = device;
@@ -97,24 +106,31 @@ impl<D: Device> DurableFront<D> {
             had_passwords,
             ..
         } = found;
-        let front = match restored(alloc, tree, secret, tick, now_ms, limits) {
+        let (tree, is_other) = match limited(tree, limits) {
+            Ok(it) => it,
+            Err(fault) => return Err((fault, device)),
+        };
+        let front = match restored(alloc, tree, secret, terms, now_ms, watches) {
             Ok(front) => front,
             Err(_) => return Err((OpenFault::Memory, device)),
         };
-        match zjournal::open(alloc, device, servers.number()) {
-            Ok((journal, _)) => Ok(Opened {
-                kept: DurableFront {
-                    alloc,
-                    front,
-                    journal,
-                    shortened: 0,
-                    is_open: true,
-                },
-                had_passwords,
-            }),
-            Err((e, device)) => {
+        match open_within(alloc, device, servers, front.service(), is_other) {
+            Ok(journal) => {
+                let shortened = measure_if(is_other, &journal);
+                Ok(Opened {
+                    kept: DurableFront {
+                        alloc,
+                        front,
+                        journal,
+                        shortened,
+                        is_open: true,
+                    },
+                    had_passwords,
+                })
+            }
+            Err((fault, device)) => {
                 drop(front);
-                Err((OpenFault::Journal(e), device))
+                Err((fault, device))
             }
         }
     }

@@ -4,8 +4,11 @@
 //! with a snapshot alone. If the disk has no room for that one, the service continues with the old
 //! one.
 //!
+//! The limits of the tree are chosen at each opening. Where the file has others, it is compacted
+//! before the service begins, with the chosen ones.
+//!
 //! ```text
-//! let opened = DurableFront::open(alloc, device, first, secret, tick, now_ms, limits)?;
+//! let opened = DurableFront::open(alloc, device, first, secret, terms, now_ms, watches, limits)?;
 //! let Opened { mut kept, .. } = opened;
 //! kept.take(Input::Came(connection, bytes))?;
 //! kept.commit()?;    // what it changed is durable
@@ -15,7 +18,7 @@
 //! It works over any `Device` (zjournal), whose law says what a crash may leave. At each moment a
 //! crash leaves the acknowledged changes, and those in flight as a whole or not at all (`commit`).
 //! So all calls that were acknowledged across restarts are in one log, whose replies are those of
-//! one plain tree (`laws`).
+//! one plain tree. Where limits change, the log has parts (`laws`).
 //!
 //! # Why
 //! The file holds updates alone: queries change nothing. No reply is stored, since a client with a
@@ -34,6 +37,7 @@ mod opened;
 mod restored;
 mod rows;
 mod stored;
+mod within;
 mod writing;
 
 pub use compacted::Compacted;
@@ -42,7 +46,8 @@ pub use kept::DurableFront;
 pub use looking::{Looked, folder_stat, look};
 pub use opened::Opened;
 pub use stored::Stored;
-pub use zfront::{Chunk, Input, Secret, TickLength, WatchLimits};
+pub use zfront::{Chunk, Input, Secret, Terms, TickLength, WatchLimits};
 pub use zprotocol::ServerId;
 pub use zsnapshots::export::FolderStat;
 pub use zsnapshots::folder::Found;
+pub use ztree_service::{LimitFault, TreeLimits};

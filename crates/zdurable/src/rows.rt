@@ -7,14 +7,20 @@ ghost use Rattle.zcalls.specs.declared.call.Update.TheVariants.{Tick};
 ghost use Rattle.zcalls.specs.declared.reply.Reply.{Reply};
 ghost use Rattle.zsnapshots.specs.folder.Entries.{entries_text};
 ghost use Rattle.zdurable.specs.DurableFront.{more_if};
-ghost use Rattle.zdurable.specs.Incarnations.{IsWoven};
+ghost use Rattle.ztree.specs.Tree.{opening_tree, opening_within};
+ghost use Rattle.zrequests.specs.Terms.{profile};
+ghost use Rattle.zdurable.specs.Incarnations.{IsWoven, PartsLead};
 ghost use Rattle.zdurable.specs.Restored.{clock_at};
+ghost use Rattle.zdurable.specs.support.Samples.{ended, idle, nodes_at_most};
 
 /// With a tick of 500 ms, a service at tick 16 began eight seconds ago, whenever it was opened.
 pub fn times_go_on()
-    ensures now { clock_at 500 10000 16 ≡ record { tick = 500; started = 2000; base = 0 } }
-    ensures new { clock_at 500 10000 0 ≡ record { tick = 500; started = 10000; base = 0 } }
-    ensures early { clock_at 500 1000 16 ≡ record { tick = 500; started = 0; base = 0 } }
+    ensures now { clock_at (profile 500) 10000 16
+        ≡ record { terms = profile 500; started = 2000; base = 0 } }
+    ensures new { clock_at (profile 500) 10000 0
+        ≡ record { terms = profile 500; started = 10000; base = 0 } }
+    ensures early { clock_at (profile 500) 1000 16
+        ≡ record { terms = profile 500; started = 0; base = 0 } }
 {}
 
 /// Without changes no block is written, and with changes one.
@@ -27,14 +33,17 @@ pub fn nothing_is_no_block()
 /// What may be in a log after some incarnations: an acknowledged call is there once. A change in
 /// flight is there once or not at all.
 pub fn what_was_reported_stands()
-    ensures under_way { (r : Reply)
-        → IsWoven (record { reported = []; kept = []; under_way = Tick ∷ [] } ∷ [])
+    ensures under_way { (r : Reply) → IsWoven (ended [] (Tick ∷ []) ∷ [])
         ((call.Update Tick, r) ∷ []) (Tick ∷ []) }
-    ensures not_at_all { IsWoven (record { reported = []; kept = []; under_way = Tick ∷ [] } ∷ [])
-        [] [] }
-    ensures undone { (c : Call) (r : Reply)
-        → IsWoven (record { reported = (c, r) ∷ []; kept = []; under_way = [] } ∷ []) [] [] → ⊥ }
-    ensures twice { (c : Call) (r : Reply)
-        → IsWoven (record { reported = (c, r) ∷ []; kept = []; under_way = [] } ∷ [])
+    ensures not_at_all { IsWoven (ended [] (Tick ∷ []) ∷ []) [] [] }
+    ensures undone { (c : Call) (r : Reply) → IsWoven (ended ((c, r) ∷ []) [] ∷ []) [] [] → ⊥ }
+    ensures twice { (c : Call) (r : Reply) → IsWoven (ended ((c, r) ∷ []) [] ∷ [])
         ((c, r) ∷ ((c, r) ∷ [])) [] → ⊥ }
+{}
+
+/// A start with other limits changes these alone, and a later one begins with them.
+pub fn limits_change_between_parts()
+    ensures one { PartsLead opening_tree (idle ∷ []) (opening_within nodes_at_most) }
+    ensures more { PartsLead opening_tree (idle ∷ (idle ∷ [])) (opening_within nodes_at_most) }
+    ensures none { PartsLead opening_tree (idle ∷ []) opening_tree → ⊥ }
 {}

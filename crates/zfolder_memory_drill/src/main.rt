@@ -8,7 +8,10 @@ mod services;
 mod tree_stories;
 mod trees;
 
-use services::{change_is_compacted, change_is_kept, service_is_compacted, service_is_opened};
+use services::{
+    change_is_compacted, change_is_kept, service_is_compacted, service_is_limited,
+    service_is_opened,
+};
 use std::io;
 use tree_stories::{entry_is_applied, snapshot_is_written, text_is_read};
 use ztesting::{report_end, tell};
@@ -26,6 +29,11 @@ fn main(rt: HostRuntime) -> io::Result<()> {
     )?;
     tell(&rt, "a tree applies an entry", entry_is_applied(rt.alloc()))?;
     tell(&rt, "a service is opened", service_is_opened(rt.alloc()))?;
+    tell(
+        &rt,
+        "a service is opened with other limits",
+        service_is_limited(rt.alloc()),
+    )?;
     tell(&rt, "a service keeps a change", change_is_kept(rt.alloc()))?;
     tell(
         &rt,

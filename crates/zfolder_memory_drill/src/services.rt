@@ -1,16 +1,20 @@
 //! A service with durable changes that runs out of memory: it has ended, and its file loses
 //! nothing.
 
+ghost use Rattle.std.specs.Prelude.{IfOk};
+ghost use Rattle.zjournal.specs.Device.{Only};
+ghost use Rattle.zjournal.specs.Memory.{current_of};
+ghost use Rattle.zjournal.specs.Past.{CanBe};
 ghost use Rattle.zdurable.specs.DurableFront.{IsSound};
 
 use crate::files::{stage_in, worked_file};
 use crate::trees::Stage;
 use std::alloc::Global;
 use zdurable::{
-    Compacted, DurableFault, DurableFront, Input, OpenFault, Opened, Secret, ServerId, TickLength,
-    WatchLimits,
+    Compacted, DurableFault, DurableFront, Input, OpenFault, Opened, Secret, ServerId, Terms,
+    TickLength, TreeLimits, WatchLimits,
 };
-use zjournal::{Device, OpenError};
+use zjournal::{Device, MemoryFile, OpenError};
 use ztesting::Ended;
 
 // The milliseconds of a tick.
@@ -18,23 +22,58 @@ const TICK: u32 = 1000;
 
 /// Opens a service. When out of memory, its file is returned as it was.
 pub(crate) fn service_is_opened(alloc: Global) -> Ended {
-    let Some(tick) = TickLength::new(TICK) else {
+    is_opened_within(alloc, TreeLimits::profile(), Stage::Worked)
+}
+
+/// Opens a service with other limits: its file is compacted. When out of memory, it is as it was, or
+/// compacted.
+pub(crate) fn service_is_limited(alloc: Global) -> Ended {
+    let mut limits = TreeLimits::profile();
+    limits.nodes = 2;
+    is_opened_within(alloc, limits, Stage::Short)
+}
+
+fn is_opened_within(alloc: Global, limits: TreeLimits, wanted: Stage) -> Ended {
+    let Some(terms) = terms() else {
         return Ended::Wrong;
     };
     let Some(file) = worked_file(alloc) else {
         return Ended::NotBegun;
     };
-    match DurableFront::open(alloc, file, ServerId::first(), secret(), tick, 0, limits()) {
+    match open(alloc, file, terms, limits) {
         Ok(Opened { kept, .. }) => {
             let found = stage_in(alloc, &kept.device().current().disk);
             drop(kept);
-            Ended::done(found == Stage::Worked)
+            Ended::done(found == wanted)
         }
         Err((fault, file)) => {
             let found = stage_in(alloc, &file.current().disk);
             drop(file);
-            Ended::refused(is_memory(fault) && found == Stage::Worked)
+            Ended::refused(is_memory(fault) && (found == Stage::Worked || found == wanted))
         }
+    }
+}
+
+// Opens the service of a file.
+fn open(
+    alloc: Global,
+    file: MemoryFile,
+    terms: Terms,
+    limits: TreeLimits,
+) -> Result<Opened<MemoryFile>, (OpenFault, MemoryFile)>
+    requires { Only (current_of file).seen.items (CanBe (current_of file)) }
+    ensures { IfOk result (λ opened.
+        IsSound (λ m. (current_of m).seen.items) (λ m. CanBe (current_of m)) opened.kept) }
+{
+    let (first, watches) = (ServerId::first(), watches());
+    DurableFront::open(alloc, file, first, secret(), terms, 0, watches, limits)
+}
+
+// The terms of the profile.
+fn terms() -> Option<Terms> {
+    match TickLength::new(TICK) {
+        Some(tick) => Some(Terms::profile(tick)),
+        None => None,
     }
 }
 
@@ -44,7 +83,7 @@ fn secret() -> Secret {
 }
 
 // No watch is set.
-fn limits() -> WatchLimits {
+fn watches() -> WatchLimits {
     WatchLimits { most: 1, each: 1 }
 }
 
@@ -52,7 +91,9 @@ fn limits() -> WatchLimits {
 fn is_memory(fault: OpenFault) -> bool {
     matches!(
         fault,
-        OpenFault::Memory | OpenFault::Journal(OpenError::Memory)
+        OpenFault::Memory
+            | OpenFault::Journal(OpenError::Memory)
+            | OpenFault::Renewal(DurableFault::Memory)
     )
 }
 
@@ -81,13 +122,13 @@ pub(crate) fn change_is_compacted(alloc: Global) -> Ended {
 }
 
 fn is_done(alloc: Global, act: Act) -> Ended {
-    let Some(tick) = TickLength::new(TICK) else {
+    let Some(terms) = terms() else {
         return Ended::Wrong;
     };
     let Some(file) = worked_file(alloc) else {
         return Ended::NotBegun;
     };
-    let opened = DurableFront::open(alloc, file, ServerId::first(), secret(), tick, 0, limits());
+    let opened = open(alloc, file, terms, TreeLimits::profile());
     let Ok(Opened { mut kept, .. }) = opened else {
         return Ended::NotBegun;
     };

@@ -2,3 +2,5 @@ mod Results
 mod Frames
 mod Asked
 mod Seating
+mod Flat
+mod Rising

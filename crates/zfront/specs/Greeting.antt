@@ -34,13 +34,13 @@ opened tick secret greeting c replies t = closed c t
 -- a session is opened for a connection
 abbrev pub with_session : ConnectRequest → ℕ → FrontView → FrontView
 with_session greeting c v =
-    let calls = opening v.clock.tick greeting ∷ [] in
-    with_tables (opened v.clock.tick v.secret greeting c (replies_to calls v) v.tables) (asked calls v)
+    let calls = opening v.clock.terms.tick greeting ∷ [] in
+    with_tables (opened v.clock.terms.tick v.secret greeting c (replies_to calls v) v.tables) (asked calls v)
 
 -- a client comes back to the session with this number, if the tree has it
 abbrev pub returned : ConnectRequest → ℤ → ℕ → FrontView → TablesView
 returned greeting (pos session) c v =
-    option_map_or (λ s. came_back v.clock.tick greeting session s.timeout (password_of v.secret session) c v.tables)
+    option_map_or (λ s. came_back v.clock.terms.tick greeting session s.timeout (password_of v.secret session) c v.tables)
     (get v.tree.sessions session) (turned_away greeting c v.tables)
 returned greeting (negsuc n) c v = turned_away greeting c v.tables
 

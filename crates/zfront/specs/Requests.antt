@@ -16,7 +16,7 @@ use Rattle.zconnections.specs.attachments.Attachments.{touched, with_changed}
 use Rattle.zconnections.specs.Tables.{closed}
 use Rattle.zresponses.specs.effects.Answering.{answered, now_of}
 use Rattle.zresponses.specs.effects.Replying.{replied}
-use Rattle.zfront.specs.Front.{FrontView, with_tables, asked, replies_to, tidied, watched}
+use Rattle.zfront.specs.Front.{FrontView, with_tables, asked, replies_to, tidied_of}
 use Rattle.zfront.specs.Walks.{walked}
 
 -- the flag of the request's session is set
@@ -32,7 +32,7 @@ with_answer calls c r v =
 
 -- the same, and ended sessions are removed
 abbrev pub Makes : List Call → ℕ → Request → FrontView → FrontView → Type 0
-Makes calls c r old new = new ≡ tidied calls (replies_to calls old) (watched old) (with_answer calls c r old)
+Makes calls c r old new = new ≡ tidied_of calls old (with_answer calls c r old)
 
 -- an answer is sent without a call
 abbrev pub Tells : Answer → ℕ → Request → FrontView → FrontView → Type 0
@@ -53,7 +53,7 @@ ActsOr None meaning c r old new = Acts meaning c r old new
 abbrev pub Requests : Result Request Fault → ℕ → ℕ → FrontView → FrontView → Type 0
 Requests (Err fault) session c old new = new ≡ with_tables (closed c old.tables) old
 Requests (Ok r) session c old new =
-    ActsOr (walked session r.asked old.tree) (calls_in old.clock.tick session r.asked) c r (touched_by session old) new
+    ActsOr (walked session r.asked old.tree) (calls_in old.clock.terms session r.asked) c r (touched_by session old) new
 
 -- what was read, as the tree has it
 abbrev pub as_named : ℕ → Result Request Fault → Result Request Fault

@@ -5,7 +5,7 @@ use Rattle.zcalls.specs.declared.call.Call.{Call}
 use Rattle.zcalls.specs.declared.call.Call.TheVariants.{Update}
 use Rattle.zcalls.specs.declared.call.Update.TheVariants.{Ping, Tick}
 use Rattle.zconnections.specs.attachments.Attachments.{all_rested, touched_ids}
-use Rattle.zfront.specs.Front.{FrontView, with_tables, asked, replies_to, tidied, watched}
+use Rattle.zfront.specs.Front.{FrontView, with_tables, asked, tidied_of}
 
 -- the call that renews a session
 abbrev pub ping : ℕ → Call
@@ -21,7 +21,7 @@ rested v = with_tables (record v.tables { attachments = all_rested v.tables.atta
 
 -- a tick that makes these calls
 abbrev pub TicksBy : List Call → FrontView → FrontView → Type 0
-TicksBy calls old new = new ≡ tidied calls (replies_to calls old) (watched old) (rested (asked calls old))
+TicksBy calls old new = new ≡ tidied_of calls old (rested (asked calls old))
 
 -- a tick
 abbrev pub Ticks : FrontView → FrontView → Type 0

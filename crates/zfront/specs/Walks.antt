@@ -1,16 +1,12 @@
--- Walks: requests that read all nodes of the tree. They make no call, since no call reads so much.
+-- Walks: requests that read many nodes of the tree. They make no call, since no call reads so much.
 -- The source is ZooKeeper 3.8 (`FinalRequestProcessor`, `DataTree.getAllChildrenNumber`), and
 -- zookeeper.jute.
-use Rattle.std.specs.Prelude.{ℕ, ◌-◌, Bool, false, nat_eq, ◌==◌, List, [], ◌++◌, length, filter, map, codes, Option, None, Some, unwrap_or, if◌then◌else◌}
+use Rattle.std.specs.Prelude.{ℕ, ◌-◌, nat_eq, List, [], ◌++◌, length, filter, map, codes, Option, None, Some, unwrap_or, if◌then◌else◌}
 use Rattle.std.specs.FinMap.{keys}
 use Rattle.std.specs.List.{list_any, starts_with}
 use Rattle.std.specs.Str.{bytes_eq}
 use Rattle.zpath.specs.Grammar.{text_of}
-use Rattle.ztree.specs.Tree.{Path, Tree}
-use Rattle.zcalls.specs.declared.call.Query.TheVariants.{Exists}
-use Rattle.zcalls.specs.declared.reply.Reply.{Reply}
-use Rattle.zcalls.specs.declared.reply.Reply.TheVariants as reply
-use Rattle.zcalls.specs.Step.{query_reply}
+use Rattle.ztree.specs.Tree.{Tree}
 use Rattle.zjute.specs.declared.code.Code.TheVariants as code
 use Rattle.zjute.specs.declared.reply.Body.TheVariants as body
 use Rattle.zjute.specs.declared.request.Asked.{Asked}
@@ -18,15 +14,7 @@ use Rattle.zjute.specs.declared.request.Asked.TheVariants as asked
 use Rattle.zresponses.specs.declared.answer.Answer.{Answer}
 use Rattle.zresponses.specs.Answers.{done, failed, names_answer}
 use Rattle.zresponses.specs.Stats.{int_of}
-
--- the stat shows this session as the owner
-abbrev pub shows_owner : ℕ → Reply → Bool
-shows_owner session (reply.Exists stat) = stat.owner == session
-shows_owner session reported = false
-
--- the node at the path is the session's ephemeral node
-abbrev pub is_owned : ℕ → Tree → Path → Bool
-is_owned session t path = shows_owner session (query_reply t (Exists path))
+use Rattle.ztree_service.specs.Sizes.{owned_by}
 
 -- these texts that begin with this one
 abbrev pub beginning_with : List ℕ → List (List ℕ) → List (List ℕ)
@@ -34,7 +22,7 @@ beginning_with front texts = filter (λ text. starts_with nat_eq text front) tex
 
 -- the paths of the session's ephemeral nodes, as texts that begin with this one
 abbrev pub ephemerals : ℕ → List ℕ → Tree → List (List ℕ)
-ephemerals session front t = beginning_with front (map text_of (filter (is_owned session t) (keys t.nodes)))
+ephemerals session front t = beginning_with front (map text_of (owned_by t session))
 
 -- how many of all paths are strictly below this one
 abbrev pub count_below : List ℕ → List (List ℕ) → ℕ

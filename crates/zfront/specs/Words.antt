@@ -5,6 +5,7 @@ use Rattle.std.specs.Str.{bytes_eq}
 use Rattle.std.specs.FinMap as finite
 use Rattle.std.specs.FinSet as sets
 use Rattle.std.specs.Fmt.{decimal}
+use Rattle.ztree.specs.Counts.{owned_count, data_count}
 use Rattle.zconnections.specs.Tables.{sent, closed}
 use Rattle.zfront.specs.Front.{FrontView, with_tables}
 use Rattle.zfront.specs.declared.word.Word.{Word}
@@ -30,15 +31,19 @@ srvr_text v =
     codes "Zookeeper version: jellqupas-0.1.0\n"
     ++ (number_line (codes "Connections: ") (finite.len v.tables.streams)
     ++ (number_line (codes "Zxid: ") ((v.clock.base + v.tree.zxid) % 2 ^ 64)
-    ++ codes "Mode: standalone\n"))
+    ++ (codes "Mode: standalone\n"
+    ++ number_line (codes "Node count: ") (finite.len v.tree.nodes))))
 
--- the same for monitoring
+-- the same for monitoring; the size of the data counts no names
 abbrev pub mntr_text : FrontView → List ℕ
 mntr_text v =
     codes "zk_version\tjellqupas-0.1.0\nzk_server_state\tstandalone\n"
     ++ (number_line (codes "zk_num_alive_connections\t") (finite.len v.tables.streams)
     ++ (number_line (codes "zk_global_sessions\t") (finite.len v.tables.attachments)
-    ++ number_line (codes "zk_watch_count\t") (sets.len v.tables.watches)))
+    ++ (number_line (codes "zk_znode_count\t") (finite.len v.tree.nodes)
+    ++ (number_line (codes "zk_watch_count\t") (sets.len v.tables.watches)
+    ++ (number_line (codes "zk_ephemerals_count\t") (owned_count v.tree.nodes)
+    ++ number_line (codes "zk_approximate_data_size\t") (data_count v.tree.nodes))))))
 
 -- the answer to a word
 abbrev pub text_of_word : Word → FrontView → List ℕ

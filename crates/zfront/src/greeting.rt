@@ -45,7 +45,7 @@ impl<T: TreeService> Inner<T> {
     fn open_session(&mut self, greeting: &ConnectRequest, connection: u32) -> Result<(), Memory>
         ensures { OnOk result (self.new ≡ with_session greeting.now connection self.old) }
     {
-        let calls = [opening(self.clock.tick, greeting)];
+        let calls = [opening(self.clock.terms.tick(), greeting)];
         let replies = self.ask(&calls)?;
         self.report_opened(greeting, connection, &replies)
     }
@@ -57,8 +57,8 @@ impl<T: TreeService> Inner<T> {
         connection: u32,
         replies: &[Reply],
     ) -> Result<(), Memory>
-        ensures { OnOk result (self.new ≡ with_tables (opened self.old.clock.tick self.old.secret
-            greeting.now connection replies.now self.old.tables) self.old) }
+        ensures { OnOk result (self.new ≡ with_tables (opened self.old.clock.terms.tick
+            self.old.secret greeting.now connection replies.now self.old.tables) self.old) }
     {
         match replies {
             [Reply::Opened(id, ticks), ..] => {
@@ -67,7 +67,7 @@ impl<T: TreeService> Inner<T> {
                     ticks: *ticks,
                     password: self.secret.password_of(*id),
                 };
-                let tick = self.clock.tick;
+                let tick = self.clock.terms.tick();
                 welcome(
                     self.alloc,
                     &mut self.tables,
@@ -97,7 +97,7 @@ impl<T: TreeService> Inner<T> {
                     ticks: session.timeout,
                     password: self.secret.password_of(id),
                 };
-                let tick = self.clock.tick;
+                let tick = self.clock.terms.tick();
                 come_back(
                     self.alloc,
                     &mut self.tables,

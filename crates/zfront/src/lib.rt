@@ -15,6 +15,7 @@
 
 mod asking;
 mod beginning;
+mod ends;
 mod front;
 mod greeting;
 mod inner;
@@ -32,6 +33,6 @@ pub use front::Front;
 pub use zalloc::Memory;
 pub use zconnections::buffers::{Chunk, Input};
 pub use zpasswords::Secret;
-pub use zrequests::TickLength;
+pub use zrequests::{Terms, TickLength};
 pub use zresponses::Clock;
 pub use zwatches::WatchLimits;

@@ -4,21 +4,22 @@
 //!
 //! No reply names what a tick or the end of a session deletes. A mirror of all ephemeral nodes,
 //! parents and TTLs would be a second tree to prove. So before such a call the front notes which
-//! nodes are watched, of at most 4,096. It checks them after it, and only when nodes may be gone.
+//! nodes the service may remove, and which of these and of their parents are watched. It checks
+//! them after the call, and only when nodes may be gone.
 //!
 //! The check is made in the same input, so no flag says that one is due. Its queries are outside
 //! the log: they change nothing, and no client gets their replies.
 //!
 //! Only a close or a tick ends sessions (`may_end`). So around other calls nothing is checked.
 
-ghost use Rattle.std.specs.Prelude.{◌≡◌, true, IfOk, OnOk};
+ghost use Rattle.std.specs.Prelude.{◌≡◌, IfOk, OnOk};
 ghost use Rattle.std.specs.List.{filter, list_any};
 ghost use Rattle.zjute.specs.declared.event.EventKind.TheVariants.{NodeDeleted};
 ghost use Rattle.zwatches.specs.Events.{is_awaited};
-ghost use Rattle.zconnections.specs.Sweeping.{is_gone};
-ghost use Rattle.zfront.specs.Front.{gone_from, looked, looked_if, looks, may_end, swept, took_unnamed};
-ghost use Rattle.zfront.specs.Front.{takes_nodes, tidied, watched};
+ghost use Rattle.zfront.specs.Front.{ending, gone_from, looked, looked_if, looks, may_end, swept};
+ghost use Rattle.zfront.specs.Front.{takes_nodes, tidied, took_unnamed, watched};
 
+use crate::ends::{make_rising, with_parents};
 use crate::inner::Inner;
 use zalloc::Memory;
 use zcalls::{Call, Query, Reply, Update};
@@ -28,23 +29,16 @@ use ztree::SessionId;
 use ztree_service::TreeService;
 
 impl<T: TreeService> Inner<T> {
-    // Returns the paths of the watched nodes, if these calls may end sessions.
-    pub(crate) fn watched_before(&self, calls: &[Call]) -> Result<Vec<Path>, Memory>
-        ensures { IfOk result (λ paths. list_any may_end calls.now ≡ true
-            → paths.items ≡ watched self.now) }
+    // Returns the watched ones, in order, of the nodes that these calls may remove and of their
+    // parents, where the calls may end these sessions.
+    pub(crate) fn watched(&self, calls: &[Call], ids: &[SessionId]) -> Result<Vec<Path>, Memory>
+        requires { ids.now ≡ ending calls.now self.now.tree }
+        ensures { IfOk result (λ paths. paths.items ≡ watched calls.now self.now) }
     {
-        if one_may_end(calls) {
-            return self.watched();
-        }
-        Ok(Vec::new(self.alloc))
-    }
-
-    // Returns the paths of the watched nodes.
-    fn watched(&self) -> Result<Vec<Path>, Memory>
-        ensures { IfOk result (λ paths. paths.items ≡ watched self.now) }
-    {
-        let mut paths = self.service.paths()?;
+        let doomed = self.doomed(calls, ids)?;
+        let mut paths = with_parents(self.alloc, doomed)?;
         self.keep_watched(&mut paths);
+        make_rising(&mut paths);
         Ok(paths)
     }
 
@@ -56,28 +50,35 @@ impl<T: TreeService> Inner<T> {
         paths.retain(|path| self.tables.awaits_end(path));
     }
 
-    // Removes the sessions that these calls ended. Checks the nodes that were watched before, if
-    // some may be gone.
+    // Removes those of these sessions that the calls ended. Checks the nodes that were watched
+    // before, if some may be gone.
     pub(crate) fn tidy(
         &mut self,
         calls: &[Call],
         replies: &[Reply],
+        ids: &[SessionId],
         paths: &[Path],
     ) -> Result<(), Memory>
-        ensures { OnOk result (self.new ≡ tidied calls.now replies.now paths.now self.old) }
+        ensures { OnOk result
+            (self.new ≡ tidied calls.now replies.now ids.now paths.now self.old) }
     {
         if one_may_end(calls) {
-            return self.sweep_and_look(replies, paths);
+            return self.sweep_and_look(replies, ids, paths);
         }
         Ok(())
     }
 
-    // Removes the ended sessions. Checks these nodes if some may be gone.
-    fn sweep_and_look(&mut self, replies: &[Reply], paths: &[Path]) -> Result<(), Memory>
-        ensures { OnOk result (self.new
-            ≡ looked_if (took_unnamed replies.now self.old) paths.now (swept self.old)) }
+    // Removes those of these sessions that ended. Checks these nodes if some may be gone.
+    fn sweep_and_look(
+        &mut self,
+        replies: &[Reply],
+        ids: &[SessionId],
+        paths: &[Path],
+    ) -> Result<(), Memory>
+        ensures { OnOk result (self.new ≡ looked_if (took_unnamed replies.now ids.now self.old)
+            paths.now (swept ids.now self.old)) }
     {
-        let gone = self.gone()?;
+        let gone = self.gone_among(ids)?;
         let made = self.tables.sweep(&gone)?;
         if one_takes_nodes(replies) || made {
             return self.look_at(paths);
@@ -85,18 +86,9 @@ impl<T: TreeService> Inner<T> {
         Ok(())
     }
 
-    // Returns the sessions in the tables that the tree no longer has.
-    fn gone(&self) -> Result<Vec<SessionId>, Memory>
-        ensures { IfOk result (λ ids. ids.items ≡ gone_from self.now) }
-    {
-        let ids = self.tables.session_ids()?;
-        self.gone_among(&ids)
-    }
-
     // Returns those of these sessions that the tree no longer has.
     fn gone_among(&self, ids: &[SessionId]) -> Result<Vec<SessionId>, Memory>
-        ensures { IfOk result (λ gone. gone.items
-            ≡ filter (is_gone self.now.tree.sessions) ids.now) }
+        ensures { IfOk result (λ gone. gone.items ≡ gone_from ids.now self.now) }
     {
         let mut gone = Vec::new(self.alloc);
         for id in ids {

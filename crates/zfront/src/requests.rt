@@ -51,7 +51,7 @@ impl<T: TreeService> Inner<T> {
         connection: u32,
     ) -> Result<(), Memory>
         ensures { OnOk result (ActsOr (walked session request.now.asked self.old.tree)
-            (calls_in self.old.clock.tick session request.now.asked) connection request.now
+            (calls_in self.old.clock.terms session request.now.asked) connection request.now
             self.old self.new) }
     {
         match self.walk(session, &request.asked)? {
@@ -62,10 +62,10 @@ impl<T: TreeService> Inner<T> {
 
     // Handles a request that is no walk.
     fn act(&mut self, request: &Request, session: SessionId, connection: u32) -> Result<(), Memory>
-        ensures { OnOk result (Acts (calls_in self.old.clock.tick session request.now.asked)
+        ensures { OnOk result (Acts (calls_in self.old.clock.terms session request.now.asked)
             connection request.now self.old self.new) }
     {
-        match calls_of(self.alloc, self.clock.tick, session, &request.asked) {
+        match calls_of(self.alloc, self.clock.terms, session, &request.asked) {
             Ok(calls) => self.make(calls.as_slice(), request, connection),
             Err(Unasked::Refused(code)) => {
                 let answer = refused_answer(self.alloc, code, &request.asked)?;
@@ -79,10 +79,11 @@ impl<T: TreeService> Inner<T> {
     fn make(&mut self, calls: &[Call], request: &Request, connection: u32) -> Result<(), Memory>
         ensures { OnOk result (Makes calls.now connection request.now self.old self.new) }
     {
-        let paths = self.watched_before(calls)?;
+        let ids = self.ending(calls)?;
+        let paths = self.watched(calls, &ids)?;
         let replies = self.ask(calls)?;
         self.answer(calls, request, connection, &replies)?;
-        self.tidy(calls, &replies, &paths)
+        self.tidy(calls, &replies, &ids, &paths)
     }
 
     // Sends the answer to a request whose calls were made.

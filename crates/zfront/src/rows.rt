@@ -1,9 +1,9 @@
 //! Worked examples of the definitions. The functions do nothing.
 
-ghost use Rattle.std.specs.Prelude.{◌≡◌, ℕ, pos, negsuc, true, false, List, [], ◌∷◌, codes, None, Some};
+ghost use Rattle.std.specs.Prelude.{◌≡◌, ℕ, pos, negsuc, true, false, List, [], ◌∷◌, ◌++◌, codes, None, Some};
 ghost use Rattle.std.specs.FinMap.{empty, get, insert};
 ghost use Rattle.ztree.specs.Tree.{Path, Tree, opening_tree};
-ghost use Rattle.ztree.specs.support.Samples.{some_stat};
+ghost use Rattle.ztree.specs.support.Samples.{at_a, at_a_b};
 ghost use Rattle.ztree.specs.declared.session.Session.{Session};
 ghost use Rattle.zcalls.specs.declared.call.Call.{Call};
 ghost use Rattle.zcalls.specs.declared.call.Call.TheVariants.{Query, Update};
@@ -12,7 +12,9 @@ ghost use Rattle.zcalls.specs.declared.call.Update.TheVariants.{Close, Open, Pin
 ghost use Rattle.zcalls.specs.declared.refusal.Refusal.{Refusal};
 ghost use Rattle.zcalls.specs.declared.reply.Reply.{Reply};
 ghost use Rattle.zcalls.specs.declared.reply.Reply.TheVariants as reply;
+ghost use Rattle.zcalls.specs.Step.{due_next, stale_next};
 ghost use Rattle.zprotocol.specs.world.PlainTree.{serve};
+ghost use Rattle.ztree_service.specs.Sizes.{owned_by};
 ghost use Rattle.zjute.specs.Frames.{next_of};
 ghost use Rattle.zjute.specs.declared.code.Code.TheVariants as code;
 ghost use Rattle.zjute.specs.declared.reply.Body.TheVariants as body;
@@ -28,12 +30,13 @@ ghost use Rattle.zresponses.specs.effects.Greeting.{came_back, turned_away, welc
 ghost use Rattle.zresponses.specs.effects.support.Samples.{greeting};
 ghost use Rattle.zfront.specs.declared.word.Word.TheVariants as word;
 ghost use Rattle.zfront.specs.Front.{FrontView, asked, left_of, may_end, replies_to, takes_nodes, tidied};
+ghost use Rattle.zfront.specs.Front.{doomed, ended_by, in_order, stale_by, with_parents};
 ghost use Rattle.zfront.specs.Greeting.{opened, opening, returned};
 ghost use Rattle.zfront.specs.Reading.{is_too_long, keeps, word_asked};
 ghost use Rattle.zfront.specs.Restoring.{all_taken, beginning, no_tables, tables_of};
 ghost use Rattle.zfront.specs.Ticking.{tick_calls};
-ghost use Rattle.zfront.specs.Walks.{beginning_with, count_below, number_answer, number_below};
-ghost use Rattle.zfront.specs.Walks.{shows_owner, walked};
+ghost use Rattle.zfront.specs.Walks.{beginning_with, count_below, ephemerals, number_answer, number_below};
+ghost use Rattle.zfront.specs.Walks.{walked};
 ghost use Rattle.zfront.specs.Words.{text_of_word, word_in};
 
 /// The word at the beginning of the bytes. It counts only instead of a connect request.
@@ -49,8 +52,8 @@ pub fn words()
     ensures absent { word_asked None (codes "mntr") ≡ None }
 {}
 
-/// Walks: the texts that begin with another, and how many paths are strictly below one. A node is
-/// that of the session that its stat shows.
+/// Walks: the texts that begin with another, and how many paths are strictly below one. A session
+/// that isn't there has no ephemeral nodes.
 pub fn walks()
     ensures front { beginning_with (codes "/a") (codes "/" ∷ codes "/a" ∷ codes "/ab" ∷ [])
         ≡ codes "/a" ∷ codes "/ab" ∷ [] }
@@ -61,8 +64,8 @@ pub fn walks()
     ensures no_node { number_answer (codes "/b") (codes "/" ∷ codes "/a" ∷ [])
         ≡ failed code.NoNode }
     ensures null { (t : Tree) → number_below None t ≡ failed code.MarshallingError }
-    ensures own { shows_owner 9 (reply.Exists some_stat) ≡ true }
-    ensures anothers { shows_owner 8 (reply.Exists some_stat) ≡ false }
+    ensures nobodys { (front : List ℕ) (t : Tree) → get t.sessions 9 ≡ None
+        → ephemerals 9 front t ≡ [] }
     ensures other { (t : Tree) → walked 9 asks.Ping t ≡ None }
 {}
 
@@ -96,7 +99,7 @@ pub fn sessions_are_opened()
 /// A client comes back to session 7. The tree must have it, and the client must give its password.
 pub fn clients_come_back()
     ensures there { (v : FrontView) (s : Session) → get v.tree.sessions 7 ≡ Some s
-        → returned greeting (pos 7) 1 v ≡ came_back v.clock.tick greeting 7 s.timeout
+        → returned greeting (pos 7) 1 v ≡ came_back v.clock.terms.tick greeting 7 s.timeout
         (password_of v.secret 7) 1 v.tables }
     ensures ended { (v : FrontView) → get v.tree.sessions 7 ≡ None
         → returned greeting (pos 7) 1 v ≡ turned_away greeting 1 v.tables }
@@ -123,8 +126,26 @@ pub fn ends_of_sessions()
     ensures tick { may_end (Update Tick) ≡ true }
     ensures ping { may_end (Update (Ping 7)) ≡ false }
     ensures query { may_end (Query (Exists [])) ≡ false }
-    ensures not_swept { (rs : List Reply) (paths : List Path) (v : FrontView)
-        → tidied (Update (Ping 7) ∷ []) rs paths v ≡ v }
+    ensures not_swept { (rs : List Reply) (ids : List ℕ) (paths : List Path) (v : FrontView)
+        → tidied (Update (Ping 7) ∷ []) rs ids paths v ≡ v }
+{}
+
+/// What calls may end: a close its own session and the nodes of it, and a tick the sessions that
+/// are due and the nodes that are stale.
+pub fn what_calls_may_end()
+    ensures close { (t : Tree) → ended_by t (Update (Close 7)) ≡ 7 ∷ [] }
+    ensures tick { (t : Tree) → ended_by t (Update Tick) ≡ due_next t }
+    ensures ping { (t : Tree) → ended_by t (Update (Ping 7)) ≡ [] }
+    ensures stale { (t : Tree) → stale_by t (Update Tick) ≡ stale_next t }
+    ensures not_stale { (t : Tree) → stale_by t (Update (Close 7)) ≡ [] }
+    ensures of_a_close { (t : Tree) → doomed (Update (Close 7) ∷ []) t ≡ owned_by t 7 ++ [] }
+    ensures of_a_query { (t : Tree) → doomed (Query (Exists []) ∷ []) t ≡ [] }
+{}
+
+/// The nodes that are looked at: those that may be gone, and their parents, each once.
+pub fn who_is_looked_at()
+    ensures parents { with_parents (at_a_b ∷ at_a ∷ []) ≡ at_a_b ∷ at_a ∷ at_a ∷ [] ∷ [] }
+    ensures order { in_order (at_a_b ∷ at_a ∷ at_a_b ∷ []) ≡ at_a ∷ at_a_b ∷ [] }
 {}
 
 /// A length that no frame has, and the rest of the bytes of a connection.

@@ -30,10 +30,11 @@ impl<T: TreeService> Inner<T> {
     fn make_tick(&mut self, calls: &[Call]) -> Result<(), Memory>
         ensures { OnOk result (TicksBy calls.now self.old self.new) }
     {
-        let paths = self.watched_before(calls)?;
+        let ids = self.ending(calls)?;
+        let paths = self.watched(calls, &ids)?;
         let replies = self.ask(calls)?;
         self.tables.rest();
-        self.tidy(calls, &replies, &paths)
+        self.tidy(calls, &replies, &ids, &paths)
     }
 }
 

@@ -1,24 +1,23 @@
-//! Requests that read all nodes of the tree.
+//! Requests that read many nodes of the tree.
 //!
 //! # Why
 //!
 //! A walk is outside the log, as a look is: it changes nothing, and a call that reads all nodes
-//! would be one of the script and of the chain, too.
+//! would be one of the script and of the chain, too. The nodes of a session are read from the
+//! service's own list of them.
 
-ghost use Rattle.std.specs.Prelude.{◌≡◌, ◌++◌, codes, filter, map, IfOk};
-ghost use Rattle.std.specs.FinMap.{keys};
+ghost use Rattle.std.specs.Prelude.{◌≡◌, ◌++◌, codes, map, IfOk};
 ghost use Rattle.std.specs.List.{list_any};
 ghost use Rattle.std.specs.Str.{bytes_eq};
 ghost use Rattle.zpath.specs.Grammar.{text_of};
 ghost use Rattle.zresponses.specs.Answers as answers;
 ghost use Rattle.zresponses.specs.Stats.{int_of};
 ghost use Rattle.zfront.specs.Walks as table;
-ghost use Rattle.zfront.specs.Walks.{beginning_with, count_below, ephemerals, is_owned, number_below, walked};
+ghost use Rattle.zfront.specs.Walks.{beginning_with, count_below, ephemerals, number_below, walked};
 
 use crate::inner::Inner;
 use std::alloc::Global;
 use zalloc::Memory;
-use zcalls::{Query, Reply};
 use zjute::{Asked, Body, Bytes, Code, Texts};
 use zpath::Path;
 use zresponses::{Answer, path_reported};
@@ -45,34 +44,10 @@ impl<T: TreeService> Inner<T> {
         ensures { IfOk result
             (λ texts. texts.items ≡ ephemerals session front.now self.now.tree) }
     {
-        let owned = self.owned(session)?;
+        let owned = self.service.owned(session)?;
         let mut texts = texts_of(self.alloc, &owned)?;
         keep_beginning(front, &mut texts);
         Ok(texts)
-    }
-
-    // Returns the paths of the session's ephemeral nodes.
-    fn owned(&self, session: SessionId) -> Result<Vec<Path>, Memory>
-        ensures { IfOk result (λ paths. paths.items
-            ≡ filter (is_owned session self.now.tree) (keys self.now.tree.nodes)) }
-    {
-        let paths = self.service.paths()?;
-        self.owned_among(session, &paths)
-    }
-
-    // Returns those of these paths at which the session's ephemeral nodes are.
-    fn owned_among(&self, session: SessionId, paths: &[Path]) -> Result<Vec<Path>, Memory>
-        ensures { IfOk result
-            (λ owned. owned.items ≡ filter (is_owned session self.now.tree) paths.now) }
-    {
-        let mut owned = Vec::new(self.alloc);
-        for path in paths {
-            let reply = self.service.ask(&Query::Exists(path.clone()?))?;
-            if shows_owner(session, &reply) {
-                owned.push(path.clone()?)?;
-            }
-        }
-        Ok(owned)
     }
 
     // Returns how many nodes are strictly below a path.
@@ -85,16 +60,6 @@ impl<T: TreeService> Inner<T> {
         let paths = self.service.paths()?;
         let texts = texts_of(self.alloc, &paths)?;
         number_answer(self.alloc, top.as_slice(), texts)
-    }
-}
-
-// Returns whether a stat shows this session as the owner.
-fn shows_owner(session: SessionId, reply: &Reply) -> bool
-    ensures { result ≡ table.shows_owner session reply.now }
-{
-    match reply {
-        Reply::Exists(stat) => stat.owner == session.number(),
-        _ => false,
     }
 }
 

@@ -76,7 +76,8 @@ impl<T: TreeService> Inner<T> {
         let last = self.last_change()?;
         write_number("Zxid: ", self.clock.base.wrapping_add(last.number()), out)?;
         out.push_str("Mode: standalone\n")?;
-        Ok(())
+        let counts = self.service.counts()?;
+        write_number("Node count: ", counts.nodes as u64, out)
     }
 
     // Writes the state of the server for monitoring.
@@ -90,7 +91,11 @@ impl<T: TreeService> Inner<T> {
             out,
         )?;
         write_number("zk_global_sessions\t", self.tables.sessions() as u64, out)?;
-        write_number("zk_watch_count\t", self.tables.watches() as u64, out)
+        let counts = self.service.counts()?;
+        write_number("zk_znode_count\t", counts.nodes as u64, out)?;
+        write_number("zk_watch_count\t", self.tables.watches() as u64, out)?;
+        write_number("zk_ephemerals_count\t", counts.owned as u64, out)?;
+        write_number("zk_approximate_data_size\t", counts.bytes, out)
     }
 }
 

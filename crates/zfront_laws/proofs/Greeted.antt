@@ -139,7 +139,7 @@ returns frame greeting (pos session) c v spelled names = by (get v.tree.sessions
     password = password_of v.secret session
 
     there_by : (s : Session) → get v.tree.sessions session ≡ Some s → (b : Bool) → pointwise nat_eq (given greeting) password ≡ b
-        → Becomes frame c v (if b then session_reported greeting session (millis_reported v.clock.tick s.timeout) password c (taken_up session c v.tables)
+        → Becomes frame c v (if b then session_reported greeting session (millis_reported v.clock.terms.tick s.timeout) password c (taken_up session c v.tables)
         else turned_away greeting c v.tables)
     there_by s there true passes =
         let u = moved session v.tables in
@@ -149,7 +149,7 @@ returns frame greeting (pos session) c v spelled names = by (get v.tree.sessions
     there_by s there false fails = turns_away frame greeting c v
 
     by : (o : Option Session) → get v.tree.sessions session ≡ o → Becomes frame c v
-        (option_map_or (λ s. came_back v.clock.tick greeting session s.timeout password c v.tables) o (turned_away greeting c v.tables))
+        (option_map_or (λ s. came_back v.clock.terms.tick greeting session s.timeout password c v.tables) o (turned_away greeting c v.tables))
     by None is = turns_away frame greeting c v
     by (Some s) is = there_by s is (pointwise nat_eq (given greeting) password) refl
 
@@ -157,10 +157,10 @@ returns frame greeting (pos session) c v spelled names = by (get v.tree.sessions
 
 opens : (frame : List ℕ) (greeting : ConnectRequest) (c : ℕ) (v : FrontView) → whole connect_request frame ≡ Ok greeting
     → greeting.session_id ≡ pos 0 → Becomes frame c v (with_session greeting c v).tables
-opens frame greeting c v spelled asks = by (serve v.tree 0 (opening v.clock.tick greeting)).1 refl
+opens frame greeting c v spelled asks = by (serve v.tree 0 (opening v.clock.terms.tick greeting)).1 refl
   where
-    by : (reported : Reply) → (serve v.tree 0 (opening v.clock.tick greeting)).1 ≡ reported
-        → Becomes frame c v (opened v.clock.tick v.secret greeting c (reported ∷ []) v.tables)
+    by : (reported : Reply) → (serve v.tree 0 (opening v.clock.terms.tick greeting)).1 ≡ reported
+        → Becomes frame c v (opened v.clock.terms.tick v.secret greeting c (reported ∷ []) v.tables)
     by (reply.Opened session ticks) is =
         speaks frame session c _ v v.tables (attachment session c v.tables).attachments (carries_quiet.none v.tables)
         (greeting, spelled, inl (asks, ticks, is))

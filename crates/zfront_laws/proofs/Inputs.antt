@@ -8,8 +8,7 @@ use Rattle.zconnections.specs.buffers.Streams as streams
 use Rattle.zconnections.specs.attachments.Attachments.{touched_ids}
 use Rattle.ztree_service.proofs.log_lemmas.Incarnations.{leads_more}
 use Rattle.zconnections.specs.Tables as tables
-use Rattle.ztree.specs.Tree.{opening_tree}
-use Rattle.zfront.specs.Front.{FrontView, asked, watched}
+use Rattle.zfront.specs.Front.{FrontView, asked}
 use Rattle.zfront.specs.Inputs as inputs
 use Rattle.zfront.specs.Inputs.{without_first}
 use Rattle.zfront.specs.Restoring.{beginning}
@@ -22,6 +21,7 @@ use Rattle.zfront_laws.specs.Runs.{Step, Takes, Sent, Took, KeepsFew, Does, Runs
 use Rattle.zfront_laws.specs.Seats.{EveryFrontIsSeated}
 use Rattle.zfront_laws.proofs.Calling.{makes}
 use Rattle.zfront_laws.proofs.Coming.{comes, empties, handles_all}
+use Rattle.zfront_laws.proofs.Ending.{tick_calls_end}
 use Rattle.zfront_laws.proofs.Held.{held-insert, held-remove}
 use Rattle.zfront_laws.proofs.Cached.{ends_kept, opens_kept, rests_kept}
 use Rattle.zfront_laws.proofs.Lighter.{as_many, none_more, unmoved}
@@ -32,7 +32,8 @@ use Rattle.zfront_laws.proofs.Steps.{Goes, both, retabled, same, takes}
 ticks : (old new : FrontView) → Ticks old new → Goes [] (done_by (tick_calls (touched_ids old.tables.attachments)) old) old new
 ticks old new has =
     let calls = tick_calls (touched_ids old.tables.attachments) in
-    makes calls (rested (asked calls old)).tables old new (as_many (held_of old.tables.streams), rests_kept old.tables) (watched old) has
+    makes calls (rested (asked calls old)).tables old new (as_many (held_of old.tables.streams), rests_kept old.tables)
+    (λ fine. tick_calls_end (touched_ids old.tables.attachments) old.tree fine.can) has
 
 takes_input : (input : InputView) (old new : FrontView) → KeepsFew old → (does : inputs.Does input old new)
     → Goes [] (input_log input old new does) old new
@@ -90,8 +91,8 @@ every_front_is_its_trees limits t secret times is_kept steps v runs =
     (run_goes steps (beginning limits t secret times is_kept) v (is_few limits t secret times is_kept) runs).leads
 
 pub every_front_is_one_tree : EveryFrontIsOneTree
-every_front_is_one_tree limits t secret times is_kept before steps v left runs =
-    leads_more opening_tree t v.tree before (run_log steps (beginning limits t secret times is_kept) v runs) left
+every_front_is_one_tree limits t secret times is_kept start before steps v left runs =
+    leads_more start t v.tree before (run_log steps (beginning limits t secret times is_kept) v runs) left
     (every_front_is_its_trees limits t secret times is_kept steps v runs)
 
 pub every_change_is_made : EveryChangeIsMade

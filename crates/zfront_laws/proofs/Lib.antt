@@ -9,7 +9,9 @@ pub mod Walking
 pub mod Wishes
 pub mod Working
 pub mod Rising
+pub mod Starts
 mod Living
+pub mod Ending
 pub mod Steps
 pub mod Calling
 pub mod Serving

@@ -2,13 +2,12 @@
 use Rattle.std.proofs.Common.{◌≡◌, ◌∙◌, ℕ, Bool, true, false, List, [], ◌∷◌, refl, sym, ap}
 use Rattle.std.specs.Prelude.{not, ◌||◌}
 use Rattle.std.specs.Cmp.{nat_cmp_total}
-use Rattle.std.specs.FinMap as finite
-use Rattle.std.specs.FinMap.{get, contains_key, nat_cmp-IsAntisymmetric}
+use Rattle.std.specs.FinMap.{contains_key, nat_cmp-IsAntisymmetric}
 use Rattle.std.specs.List.{filter, list_any}
 use Rattle.std.specs.Ordering.{eq_by_cmp, nat_cmp}
-use Rattle.ztree.proofs.Maps.{is_there, tied_same, get-removed}
+use Rattle.ztree.proofs.Maps.{tied_same, get-removed}
 use Rattle.ztree.specs.Tree.{Sessions}
-use Rattle.zconnections.specs.Sweeping.{gone, is_gone, swept, swept_all}
+use Rattle.zconnections.specs.Sweeping.{is_gone, swept, swept_all}
 use Rattle.zconnections.specs.Tables.{TablesView, moved}
 use Rattle.zfront_laws.proofs.Changes.{sweeps_all}
 use Rattle.zfront_laws.proofs.Lighter.{Lighter, carries_lighter}
@@ -44,16 +43,11 @@ among test id passes (first ∷ ids) is = by (among test id passes ids) (eq_by_c
     by later false are true taken some = rw (taken, are) (later some)
     by later false are false left some = rw left (later some)
 
--- so after a sweep each attachment is of a session of the tree
-pub swept_lives : (sessions : Sessions) (t : TablesView) (id : ℕ) → Has (swept_all (gone sessions t.attachments) t).attachments id
-    → contains_key sessions id ≡ true
-swept_lives sessions t id has = by (contains_key sessions id) refl
+-- so after a sweep of those that may be gone each attachment is of a session of the tree
+pub swept_lives : (sessions : Sessions) (ids : List ℕ) (t : TablesView) (id : ℕ) → Has (swept_all (filter (is_gone sessions) ids) t).attachments id
+    → (contains_key sessions id ≡ false → list_any (eq_by_cmp nat_cmp id) ids ≡ true) → contains_key sessions id ≡ true
+swept_lives sessions ids t id has listed = by (contains_key sessions id) refl
   where
-    sat : Has t.attachments id
-    sat = (sweeps_all Lighter carries_lighter (gone sessions t.attachments) t).1.1 id has
-
     by : (b : Bool) → contains_key sessions id ≡ b → contains_key sessions id ≡ true
     by true is = is
-    by false is =
-        let listed = sym (finite.contains_key-keys t.attachments id) ∙ is_there (get t.attachments id) sat.0 sat.1 in
-        absurd (sweeps_away (gone sessions t.attachments) t id (among (is_gone sessions) id (ap not is) (finite.keys t.attachments) listed) has)
+    by false is = absurd (sweeps_away (filter (is_gone sessions) ids) t id (among (is_gone sessions) id (ap not is) ids (listed is)) has)

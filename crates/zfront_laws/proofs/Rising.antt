@@ -8,7 +8,6 @@ use Rattle.std.specs.FinMap.{get, insert, contains_key, nat_cmp-IsAntisymmetric}
 use Rattle.std.specs.List.{list_any}
 use Rattle.ztree.proofs.Maps.{get-insert-here, has_some}
 use Rattle.ztree.specs.declared.session.Session.{Session}
-use Rattle.ztree.specs.declared.limits.TheConstants.{MAX_SESSIONS}
 use Rattle.ztree.specs.Sessions.{with_session, new_session}
 use Rattle.ztree.specs.Tree.{Tree, with_next_zxid}
 use Rattle.zcalls.specs.declared.call.Call.{Call}
@@ -43,11 +42,11 @@ opens_by t u id timeout granted false false is =
 
 -- it is a new one
 pub step_opens : (t : Tree) (ticks id timeout : ℕ) → (step t 0 (Open ticks)).1 ≡ Opened id timeout
-    → (id ≡ t.zxid + 1) × ((step t 0 (Open ticks)).0 ≡ with_next_zxid (with_session t 0 (granted_timeout ticks)))
+    → (id ≡ t.zxid + 1) × ((step t 0 (Open ticks)).0 ≡ with_next_zxid (with_session t 0 (granted_timeout t.limits.timeout ticks)))
 unfolding step
 step_opens t ticks id timeout is =
-    opens_by t (with_next_zxid (with_session t 0 (granted_timeout ticks))) id timeout (granted_timeout ticks)
-    (is_exhausted t (Open ticks)) (nat_le MAX_SESSIONS (finite.len t.sessions)) is
+    opens_by t (with_next_zxid (with_session t 0 (granted_timeout t.limits.timeout ticks))) id timeout (granted_timeout t.limits.timeout ticks)
+    (is_exhausted t (Open ticks)) (nat_le t.limits.sessions (finite.len t.sessions)) is
 
 pub new_id : (t : Tree) (ticks id timeout : ℕ) → (step t 0 (Open ticks)).1 ≡ Opened id timeout
     → (id ≡ t.zxid + 1) × (id ≤ (step t 0 (Open ticks)).0.zxid)
@@ -61,7 +60,7 @@ pub step_adds : (t : Tree) (ticks id timeout : ℕ) → (step t 0 (Open ticks)).
     → contains_key (step t 0 (Open ticks)).0.sessions id ≡ true
 step_adds t ticks id timeout is =
     let opens = step_opens t ticks id timeout is in
-    let more = new_session 0 (granted_timeout ticks) t.time in
+    let more = new_session 0 (granted_timeout t.limits.timeout ticks) t.time in
     ap (λ (u : Tree). contains_key u.sessions id) opens.1
     ∙ ap (λ n. contains_key (insert t.sessions (t.zxid + 1) more) n) opens.0
     ∙ ap is_some (get-insert-here nat_cmp_total nat_cmp-IsAntisymmetric t.sessions (t.zxid + 1) more)

@@ -1,6 +1,7 @@
 -- A step at greetings and at requests.
 use Rattle.std.proofs.Common.{◌≡◌, ◌≢◌, ◌⊎◌, inl, inr, ◌∙◌, ℕ, ℤ, ◌+◌, ◌≤◌, Bool, true, false, List, [], ◌∷◌, Option, None, Some, Result}
 use Rattle.std.proofs.Common.{Ok, Err, refl, sym, ap, subst, arith}
+use Rattle.std.specs.List.{AllByRecursion}
 use Rattle.std.specs.Prelude.{pos, negsuc, nat_eq, unwrap_or, if◌then◌else◌}
 use Rattle.std.specs.Cmp.{nat_cmp_total}
 use Rattle.std.specs.FinMap.{get, insert, contains_key, nat_cmp-IsAntisymmetric}
@@ -19,6 +20,8 @@ use Rattle.zjute.specs.declared.connecting.ConnectRequest.{ConnectRequest}
 use Rattle.zjute.specs.declared.request.Request.{Request}
 use Rattle.zrequests.specs.Asking.{Meaning}
 use Rattle.zrequests.specs.Requests.{calls_in}
+use Rattle.zrequests.specs.Laws.{CallIsFor}
+use Rattle.zrequests.proofs.SessionCalls.{calls_are_for_their_session}
 use Rattle.zrequests.specs.Timeouts.{millis_reported, ticks_asked}
 use Rattle.zrequests.specs.declared.fault.Unasked.TheVariants.{Refused, Memory}
 use Rattle.zresponses.specs.declared.answer.Answer.{Answer}
@@ -36,7 +39,7 @@ use Rattle.zconnections.specs.Tables.{TablesView, closed, connection_of, moved, 
 use Rattle.zresponses.specs.effects.Frames.{response_frame}
 use Rattle.zresponses.specs.effects.Greeting.{came_back, given, is_ahead, session_reported, turned_away}
 use Rattle.zresponses.specs.effects.Replying.{replied}
-use Rattle.zfront.specs.Front.{FrontView, with_tables, asked, watched}
+use Rattle.zfront.specs.Front.{FrontView, with_tables, asked}
 use Rattle.zfront.specs.Greeting.{opening, opened, with_session, returned, greeted_by, greeted}
 use Rattle.zfront.specs.Requests.{touched_by, with_answer, Tells, Acts, ActsOr, Requests, Serves, request_in}
 use Rattle.zfront.specs.Walks.{walked}
@@ -44,6 +47,7 @@ use Rattle.zfront_laws.specs.Logs.{done_by, greeting_calls, meant, request_calls
 use Rattle.zfront_laws.specs.Seats.{IsSeated}
 use Rattle.zfront_laws.proofs.Calling.{made, makes}
 use Rattle.zfront_laws.proofs.Changes.{replies_to, says, sends}
+use Rattle.zfront_laws.proofs.Ending.{own_calls_end}
 use Rattle.zfront_laws.proofs.Cached.{closes_kept, touched_kept}
 use Rattle.zfront_laws.proofs.Lighter.{Lighter, as_many, carries_lighter, closes, moves, phase_lighter}
 use Rattle.zfront_laws.proofs.Rising.{new_id, sessions_last, step_adds}
@@ -60,18 +64,19 @@ tells answer c r old new is =
     retabled (replied (told old.clock.base old.tree.zxid) c r.xid answer old.tables) old new is
     (replies_to Lighter carries_lighter (told old.clock.base old.tree.zxid) c r.xid answer old.tables)
 
-acts : (meaning : Meaning (List Call)) (c : ℕ) (r : Request) (old new : FrontView) → Acts meaning c r old new
-    → Goes [] (done_by (meant meaning) old) old new
-acts (Err (Refused code)) c r old new is = tells (refused_answer code r.asked) c r old new is
-acts (Err Memory) c r old new is = absurd is
-acts (Ok calls) c r old new has =
-    makes calls (with_answer calls c r old).tables old new (working.answered_by Lighter carries_lighter calls c r old) (watched old) has
+acts : (meaning : Meaning (List Call)) (session : ℕ) → ((calls : List Call) → meaning ≡ Ok calls → AllByRecursion (CallIsFor session) calls)
+    → (c : ℕ) (r : Request) (old new : FrontView) → Acts meaning c r old new → Goes [] (done_by (meant meaning) old) old new
+acts (Err (Refused code)) session for c r old new is = tells (refused_answer code r.asked) c r old new is
+acts (Err Memory) session for c r old new is = absurd is
+acts (Ok calls) session for c r old new has =
+    makes calls (with_answer calls c r old).tables old new (working.answered_by Lighter carries_lighter calls c r old)
+    (λ fine. own_calls_end session calls (for calls refl) old.tree) has
 
 acts_or : (walk : Option Answer) (meaning : Meaning (List Call)) → ((answer : Answer) → walk ≡ Some answer → meant meaning ≡ [])
-    → (c : ℕ) (r : Request) (old new : FrontView) → ActsOr walk meaning c r old new → Goes [] (done_by (meant meaning) old) old new
-acts_or (Some answer) meaning nothing c r old new is =
+    → (session : ℕ) → ((calls : List Call) → meaning ≡ Ok calls → AllByRecursion (CallIsFor session) calls) → (c : ℕ) (r : Request) (old new : FrontView) → ActsOr walk meaning c r old new → Goes [] (done_by (meant meaning) old) old new
+acts_or (Some answer) meaning nothing session for c r old new is =
     subst (λ calls. Goes [] (done_by calls old) old new) (sym (nothing answer refl)) (tells answer c r old new is)
-acts_or None meaning nothing c r old new has = acts meaning c r old new has
+acts_or None meaning nothing session for c r old new has = acts meaning session for c r old new has
 
 requests : (read : Result Request Fault) (session c : ℕ) (old new : FrontView) → Requests read session c old new
     → Goes [] (done_by (request_calls read session old) old) old new
@@ -79,8 +84,8 @@ requests (Err fault) session c old new is = retabled (closed c old.tables) old n
 requests (Ok r) session c old new has =
     let middle = touched_by session old in
     both (retabled middle.tables old middle refl (as_many (held_of old.tables.streams), touched_kept session old.tables))
-    (acts_or (walked session r.asked old.tree) (calls_in old.clock.tick session r.asked)
-    (walks_call_nothing old.clock.tick session r.asked old.tree) c r middle new has)
+    (acts_or (walked session r.asked old.tree) (calls_in old.clock.terms session r.asked)
+    (walks_call_nothing old.clock.terms session r.asked old.tree) session (calls_are_for_their_session old.clock.terms session r.asked) c r middle new has)
 
 pub serves : (bytes : List ℕ) (session c : ℕ) (old new : FrontView) → Serves bytes session c old new
     → Goes [] (done_by (request_calls (request_in old.clock.base bytes) session old) old) old new
@@ -129,10 +134,10 @@ takes_up session c v there = tables_change (taken_up session c t) v
     }
 
 comes_back : (greeting : ConnectRequest) (session ticks : ℕ) (c : ℕ) (v : FrontView) → contains_key v.tree.sessions session ≡ true
-    → Goes [] [] v (with_tables (came_back v.clock.tick greeting session ticks (password_of v.secret session) c v.tables) v)
+    → Goes [] [] v (with_tables (came_back v.clock.terms.tick greeting session ticks (password_of v.secret session) c v.tables) v)
 comes_back greeting session ticks c v there =
     let password = password_of v.secret session in
-    let timeout = millis_reported v.clock.tick ticks in
+    let timeout = millis_reported v.clock.terms.tick ticks in
     let bytes = response_frame greeting timeout (long_of session) password in
     let middle = with_tables (taken_up session c v.tables) v in
     elim (pointwise nat_eq (given greeting) password) as
@@ -149,7 +154,7 @@ returns greeting (negsuc n) c v = turns_away greeting c v
 returns greeting (pos session) c v = by (get v.tree.sessions session) refl
   where
     by : (o : Option Session) → get v.tree.sessions session ≡ o → Goes [] [] v
-        (with_tables (option_map_or (λ s. came_back v.clock.tick greeting session s.timeout (password_of v.secret session) c v.tables)
+        (with_tables (option_map_or (λ s. came_back v.clock.terms.tick greeting session s.timeout (password_of v.secret session) c v.tables)
         o (turned_away greeting c v.tables)) v)
     by None is = turns_away greeting c v
     by (Some s) is = comes_back greeting session s.timeout c v (is_there (get v.tree.sessions session) s is)
@@ -166,13 +171,13 @@ no_attachment m id bound is low = by (get m id) refl
 
 module _ (greeting : ConnectRequest) (c : ℕ) (v : FrontView) where
   abbrev ticks_wanted : ℕ
-  ticks_wanted = ticks_asked v.clock.tick greeting.timeout
+  ticks_wanted = ticks_asked v.clock.terms.tick greeting.timeout
 
   abbrev the_call : Call
-  the_call = opening v.clock.tick greeting
+  the_call = opening v.clock.terms.tick greeting
 
   abbrev the_tables : List Reply → TablesView
-  the_tables replies = opened v.clock.tick v.secret greeting c replies v.tables
+  the_tables replies = opened v.clock.terms.tick v.secret greeting c replies v.tables
 
   lasts : (id : ℕ) → Fine v → Has v.tables.attachments id → contains_key (serve v.tree 0 the_call).0.sessions id ≡ true
   lasts id fine has = sessions_last (the_call ∷ []) v.tree id refl (fine.alive id has)
@@ -203,7 +208,7 @@ module _ (greeting : ConnectRequest) (c : ℕ) (v : FrontView) where
       u = attachment session c t
 
       bytes : List ℕ
-      bytes = response_frame greeting (millis_reported v.clock.tick ticks) (long_of session) (password_of v.secret session)
+      bytes = response_frame greeting (millis_reported v.clock.terms.tick ticks) (long_of session) (password_of v.secret session)
 
       reporting : Lighter u (sent c bytes u)
       reporting = sends Lighter carries_lighter c bytes u
@@ -232,7 +237,7 @@ greets_by : (read : Result ConnectRequest Fault) (c : ℕ) (v : FrontView) → G
 greets_by (Err fault) c v = retabled (closed c v.tables) v (with_tables (closed c v.tables) v) refl (closes c v.tables)
 greets_by (Ok greeting) c v = by (is_ahead (told v.clock.base v.tree.zxid) greeting) (int_eq greeting.session_id (pos 0))
   where
-    by : (ahead is_new : Bool) → Goes [] (done_by (if ahead then [] else if is_new then opening v.clock.tick greeting ∷ [] else []) v) v
+    by : (ahead is_new : Bool) → Goes [] (done_by (if ahead then [] else if is_new then opening v.clock.terms.tick greeting ∷ [] else []) v) v
         (if ahead then with_tables (closed c v.tables) v else if is_new then with_session greeting c v
         else with_tables (returned greeting greeting.session_id c v) v)
     by true is_new = retabled (closed c v.tables) v (with_tables (closed c v.tables) v) refl (closes c v.tables)

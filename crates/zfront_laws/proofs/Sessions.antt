@@ -45,8 +45,8 @@ acted_or None meaning session c asked old new for_it has = acted meaning session
 by_reading : (read : Result Request Fault) (session c : ℕ) (old new : FrontView) → Requests read session c old new → Outcome read session c old new
 by_reading (Err fault) session c old new is = inl (ap (λ (v : FrontView). v.tree) is)
 by_reading (Ok asked) session c old new has =
-    acted_or (walked session asked.asked old.tree) (calls_in old.clock.tick session asked.asked) session c asked old new
-    (calls_are_for_their_session old.clock.tick session asked.asked) has
+    acted_or (walked session asked.asked old.tree) (calls_in old.clock.terms session asked.asked) session c asked old new
+    (calls_are_for_their_session old.clock.terms session asked.asked) has
 
 pub requests_are_for_their_session : RequestsAreForTheirSession
 requests_are_for_their_session bytes session c old new has = by_reading (request_in old.clock.base bytes) session c old new has

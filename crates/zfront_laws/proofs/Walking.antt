@@ -4,6 +4,7 @@ use Rattle.std.specs.Prelude.{◌⊎◌, None, Some}
 use Rattle.ztree.specs.Tree.{Tree}
 use Rattle.zjute.specs.declared.request.Asked.{Asked}
 use Rattle.zjute.specs.declared.request.Asked.TheVariants as asked
+use Rattle.zrequests.specs.Terms.{Terms}
 use Rattle.zrequests.specs.Requests.{calls_in}
 use Rattle.zresponses.specs.declared.answer.Answer.{Answer}
 use Rattle.zfront.specs.Walks.{walked}
@@ -11,7 +12,7 @@ use Rattle.zfront_laws.specs.Logs.{meant}
 
 abbrev IsWalk : ℕ → Asked → Type 0
 IsWalk session asks =
-    ((tick : ℕ) → calls_in tick session asks ≡ Ok []) × ((t : Tree) → (answer : Answer) × (walked session asks t ≡ Some answer))
+    ((terms : Terms) → calls_in terms session asks ≡ Ok []) × ((t : Tree) → (answer : Answer) × (walked session asks t ≡ Some answer))
 
 walks : (session : ℕ) (asks : Asked) → ((t : Tree) → walked session asks t ≡ None) ⊎ IsWalk session asks
 walks session (asked.Create it) = inl (λ t. refl)
@@ -36,8 +37,8 @@ walks session (asked.MultiRead it) = inl (λ t. refl)
 walks session (asked.Auth it) = inl (λ t. refl)
 walks session (asked.SetWatches it) = inl (λ t. refl)
 walks session (asked.Sasl it) = inl (λ t. refl)
-walks session (asked.GetEphemerals it) = inr ((λ tick. refl), (λ t. (_, refl)))
-walks session (asked.GetAllChildrenNumber it) = inr ((λ tick. refl), (λ t. (_, refl)))
+walks session (asked.GetEphemerals it) = inr ((λ terms. refl), (λ t. (_, refl)))
+walks session (asked.GetAllChildrenNumber it) = inr ((λ terms. refl), (λ t. (_, refl)))
 walks session (asked.SetWatches2 it) = inl (λ t. refl)
 walks session (asked.AddWatch it) = inl (λ t. refl)
 walks session asked.WhoAmI = inl (λ t. refl)
@@ -51,13 +52,13 @@ apart : {P : Type 0} (answer : Answer) → nothing ≡ Some answer → P
 apart answer e = absurd cc
 
 -- a walk makes no call
-pub walks_call_nothing : (tick session : ℕ) (asks : Asked) (t : Tree) (answer : Answer) → walked session asks t ≡ Some answer
-    → meant (calls_in tick session asks) ≡ []
-walks_call_nothing tick session asks t answer is = at (walks session asks)
+pub walks_call_nothing : (terms : Terms) (session : ℕ) (asks : Asked) (t : Tree) (answer : Answer) → walked session asks t ≡ Some answer
+    → meant (calls_in terms session asks) ≡ []
+walks_call_nothing terms session asks t answer is = at (walks session asks)
   where
-    at : ((t : Tree) → walked session asks t ≡ None) ⊎ IsWalk session asks → meant (calls_in tick session asks) ≡ []
+    at : ((t : Tree) → walked session asks t ≡ None) ⊎ IsWalk session asks → meant (calls_in terms session asks) ≡ []
     at (inl none) = apart answer (sym (none t) ∙ is)
-    at (inr walk) = ap meant (walk.0 tick)
+    at (inr walk) = ap meant (walk.0 terms)
 
 -- what is no walk of one tree is none of another
 pub never_walks : (session : ℕ) (asks : Asked) (t u : Tree) → walked session asks t ≡ None → walked session asks u ≡ None

@@ -19,7 +19,7 @@ use Rattle.zresponses.specs.effects.Looking.{seen}
 use Rattle.zresponses.specs.effects.Replying.{replied}
 use Rattle.zresponses.specs.Stats.{told}
 use Rattle.zfront.specs.Front.{FrontView, with_tables, asked, replies_to, gone_from, swept, may_end, took_unnamed, looks, looked_if, watched}
-use Rattle.zfront.specs.Front.{tidied_if, tidied}
+use Rattle.zfront.specs.Front.{ending, tidied_if, tidied_of}
 use Rattle.zfront.specs.Requests.{touched_by, with_answer, Tells, Acts, ActsOr, Requests, Serves, request_in}
 use Rattle.zfront.specs.Ticking.{rested, tick_calls, Ticks}
 use Rattle.zfront.specs.Walks.{walked}
@@ -44,13 +44,16 @@ module _ (R : TablesView → TablesView → Type 0) (carry : Carries R) where
   looks_if false paths v = carry.none v.tables
   looks_if true paths v = reports_all R carry (seen v.tree.zxid paths (looks v.tree paths)) v.tables
 
-  tidies_if : (ends : Bool) (replies : List Reply) (paths : List Path) (v : FrontView) → From v (tidied_if ends replies paths v)
-  tidies_if false replies paths v = carry.none v.tables
-  tidies_if true replies paths v =
-      joins v (swept v) (looked_if (took_unnamed replies v) paths (swept v)) (sweeps_all R carry (gone_from v) v.tables) (looks_if (took_unnamed replies v) paths (swept v))
+  tidies_if : (ends : Bool) (replies : List Reply) (ids : List ℕ) (paths : List Path) (v : FrontView) → From v (tidied_if ends replies ids paths v)
+  tidies_if false replies ids paths v = carry.none v.tables
+  tidies_if true replies ids paths v =
+      joins v (swept ids v) (looked_if (took_unnamed replies ids v) paths (swept ids v)) (sweeps_all R carry (gone_from ids v) v.tables)
+      (looks_if (took_unnamed replies ids v) paths (swept ids v))
 
-  pub tidies : (calls : List Call) (replies : List Reply) (paths : List Path) (old new : FrontView) → new ≡ tidied calls replies paths old → From old new
-  tidies calls replies paths old new is = becomes old (tidied calls replies paths old) new is (tidies_if (list_any may_end calls) replies paths old)
+  pub tidies : (calls : List Call) (was v new : FrontView) → new ≡ tidied_of calls was v → From v new
+  tidies calls was v new is =
+      becomes v (tidied_of calls was v) new is
+      (tidies_if (list_any may_end calls) (replies_to calls was) (ending calls was.tree) (watched calls was) v)
 
   -- requests
   pub answered_by : (calls : List Call) (c : ℕ) (r : Request) (v : FrontView) → From v (with_answer calls c r v)
@@ -65,7 +68,7 @@ module _ (R : TablesView → TablesView → Type 0) (carry : Carries R) where
   acts (Err (Refused code)) c r old new is = tells (refused_answer code r.asked) c r old new is
   acts (Err Memory) c r old new is = absurd is
   acts (Ok calls) c r old new has =
-      joins old (with_answer calls c r old) new (answered_by calls c r old) (tidies calls (replies_to calls old) (watched old) (with_answer calls c r old) new has)
+      joins old (with_answer calls c r old) new (answered_by calls c r old) (tidies calls old (with_answer calls c r old) new has)
 
   acts_or : (walk : Option Answer) (meaning : Meaning (List Call)) (c : ℕ) (r : Request) (old new : FrontView) → ActsOr walk meaning c r old new
       → From old new
@@ -76,7 +79,7 @@ module _ (R : TablesView → TablesView → Type 0) (carry : Carries R) where
   requests (Err fault) session c old new is = becomes old (with_tables (closed c old.tables) old) new is (carry.closes c old.tables)
   requests (Ok r) session c old new has =
       joins old (touched_by session old) new (carry.touches session old.tables)
-      (acts_or (walked session r.asked old.tree) (calls_in old.clock.tick session r.asked) c r (touched_by session old) new has)
+      (acts_or (walked session r.asked old.tree) (calls_in old.clock.terms session r.asked) c r (touched_by session old) new has)
 
   pub serves : (bytes : List ℕ) (session c : ℕ) (old new : FrontView) → Serves bytes session c old new → From old new
   serves bytes session c old new has = requests (request_in old.clock.base bytes) session c old new has
@@ -85,4 +88,4 @@ module _ (R : TablesView → TablesView → Type 0) (carry : Carries R) where
   pub ticks : (old new : FrontView) → Ticks old new → From old new
   ticks old new has =
       let calls = tick_calls (touched_ids old.tables.attachments) in
-      joins old (rested (asked calls old)) new (carry.rests old.tables) (tidies calls (replies_to calls old) (watched old) (rested (asked calls old)) new has)
+      joins old (rested (asked calls old)) new (carry.rests old.tables) (tidies calls old (rested (asked calls old)) new has)

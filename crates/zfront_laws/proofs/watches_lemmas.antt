@@ -9,6 +9,7 @@ pub mod Moving
 pub mod Keeping
 pub mod Owning
 pub mod Holding
+pub mod Away
 pub mod Scenes
 pub mod Seeing
 pub mod Single
@@ -22,6 +23,7 @@ pub mod Again
 pub mod Adding
 pub mod Wished
 pub mod Watched
+pub mod Doomed
 pub mod Looking
 pub mod Told
 pub mod Tidying

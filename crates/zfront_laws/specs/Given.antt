@@ -49,7 +49,7 @@ IsNoOpening c other = Unit {0}
 -- now. Or it names one that the tree has, with the whole password that the secret derives for it
 abbrev pub Gains : ℕ → ConnectRequest → FrontView → Type 0
 Gains session greeting v =
-    ((greeting.session_id ≡ pos 0) × (ticks : ℕ) × ((serve v.tree 0 (opening v.clock.tick greeting)).1 ≡ reply.Opened session ticks))
+    ((greeting.session_id ≡ pos 0) × (ticks : ℕ) × ((serve v.tree 0 (opening v.clock.terms.tick greeting)).1 ≡ reply.Opened session ticks))
     ⊎ ((greeting.session_id ≡ pos session) × (finite.contains_key v.tree.sessions session ≡ true)
     × (given greeting ≡ password_of v.secret session))
 

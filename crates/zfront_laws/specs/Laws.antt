@@ -9,7 +9,7 @@ use Rattle.zjute.specs.Asking.{request}
 use Rattle.zjute.specs.declared.request.Request.{Request}
 use Rattle.zrequests.specs.Laws.{CallIsFor}
 use Rattle.zresponses.specs.declared.clock.Clock.{Clock}
-use Rattle.ztree_service.specs.log.Logs.{Log, Leads, Leaves}
+use Rattle.ztree_service.specs.log.Logs.{Log, Leads}
 use Rattle.zconnections.specs.Tables.{closed}
 use Rattle.zwatches.specs.declared.limits.WatchLimits.{WatchLimits}
 use Rattle.zfront.specs.Front.{FrontView, with_tables}
@@ -37,13 +37,13 @@ EveryFrontKeepsFew =
     (limits : WatchLimits) (t : Tree) (secret : List ℕ) (times : Clock) (is_kept : Bool) (steps : List Step) (v : FrontView)
     → Runs steps (beginning limits t secret times is_kept) v → KeepsFew v
 
--- the calls of all connections form one log: that of the steps, after any earlier log that left the
--- first tree; its replies are those of one plain tree
+-- the calls of all connections form one log: that of the steps, after any earlier log that led from
+-- some tree to the first one; its replies are those of that tree
 abbrev pub EveryFrontIsOneTree : Type 0
 EveryFrontIsOneTree =
-    (limits : WatchLimits) (t : Tree) (secret : List ℕ) (times : Clock) (is_kept : Bool) (before : Log) (steps : List Step) (v : FrontView)
-    → Leaves before t → (runs : Runs steps (beginning limits t secret times is_kept) v)
-    → Leaves (before ++ run_log steps (beginning limits t secret times is_kept) v runs) v.tree
+    (limits : WatchLimits) (t : Tree) (secret : List ℕ) (times : Clock) (is_kept : Bool) (start : Tree) (before : Log) (steps : List Step) (v : FrontView)
+    → Leads start before t → (runs : Runs steps (beginning limits t secret times is_kept) v)
+    → Leads start (before ++ run_log steps (beginning limits t secret times is_kept) v runs) v.tree
 
 -- whatever tree a front began with, the log since then is that tree's
 abbrev pub EveryFrontIsItsTrees : Type 0

@@ -4,5 +4,6 @@ pub mod Runs
 pub mod Logs
 pub mod Laws
 pub mod Seats
+pub mod Starts
 pub mod Given
 pub mod Making

@@ -35,7 +35,7 @@ abbrev pub greeting_calls : Result ConnectRequest Fault → FrontView → List C
 greeting_calls (Err fault) v = []
 greeting_calls (Ok greeting) v =
     if is_ahead (told v.clock.base v.tree.zxid) greeting then [] else
-    if int_eq greeting.session_id (pos 0) then opening v.clock.tick greeting ∷ [] else []
+    if int_eq greeting.session_id (pos 0) then opening v.clock.terms.tick greeting ∷ [] else []
 
 -- the calls of a request, unless it is refused
 abbrev pub meant : Meaning (List Call) → List Call
@@ -44,7 +44,7 @@ meant (Err why) = []
 
 abbrev pub request_calls : Result Request Fault → ℕ → FrontView → List Call
 request_calls (Err fault) session v = []
-request_calls (Ok r) session v = meant (calls_in v.clock.tick session r.asked)
+request_calls (Ok r) session v = meant (calls_in v.clock.terms session r.asked)
 
 -- the calls of a frame on a connection in this phase
 abbrev pub frame_calls : Option Phase → List ℕ → FrontView → List Call

@@ -8,6 +8,7 @@ ghost use Rattle.zfront_laws.specs.Laws.{StaysAsItBegan};
 ghost use Rattle.zfront_laws.specs.Making.{EveryChangeIsMade, EverySessionIsRestored};
 ghost use Rattle.zfront_laws.specs.Making.{EveryStepMakesMore};
 ghost use Rattle.zfront_laws.specs.Seats.{EveryFrontIsSeated, OneSpeaks, SeatsAreKept};
+ghost use Rattle.zfront_laws.specs.Starts.{InitialTreesAreSettled, SettledTreesCanStart};
 
 /// The log of each step leads from the tree before it to the tree after it, with that tree's
 /// replies. A step is an input, the sending of a chunk, or the taking of recorded updates.
@@ -26,10 +27,10 @@ pub fn every_front_keeps_few()
     ensures { EveryFrontKeepsFew }
 {}
 
-/// Whatever the steps of a front were, all its calls form one log, after any earlier log that left
-/// the first tree. The replies are those of one plain tree that serves these calls in order, so no
-/// connection sees another tree. With or without an earlier log, the log since the beginning is
-/// that of the first tree.
+/// Whatever the steps of a front were, all its calls form one log, after any earlier log that led
+/// from some tree to the first one. The replies are those of one plain tree that serves these calls
+/// in order, so no connection sees another tree. With or without an earlier log, the log since the
+/// beginning is that of the first tree.
 pub fn every_front_is_one_tree()
     ensures log { EveryFrontIsOneTree }
     ensures since { EveryFrontIsItsTrees }
@@ -96,4 +97,15 @@ pub fn every_session_is_restored()
 /// The updates of a front's log are those taken and those still recorded: each once, in order.
 pub fn every_change_is_made()
     ensures { EveryChangeIsMade }
+{}
+
+/// The initial tree is settled, within any limits that a tree can have. So every law here holds of
+/// a front that begins with it.
+pub fn initial_trees_are_settled()
+    ensures { InitialTreesAreSettled }
+{}
+
+/// A service can begin with a settled tree.
+pub fn settled_trees_can_start()
+    ensures { SettledTreesCanStart }
 {}

@@ -1,5 +1,5 @@
 //! Laws of every front end for ZooKeeper's clients (`zfront`), whatever its steps are. It may begin
-//! with the initial tree, or with one that an earlier front left.
+//! with any tree, or with one that an earlier front left.
 //!
 //! All its calls form one log, and the replies of that log are those of one plain tree
 //! (`specs/Laws.antt`). Each law is the contract of a function whose body does nothing.

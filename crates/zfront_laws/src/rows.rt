@@ -51,7 +51,7 @@ pub fn frames_call()
     ensures no_greeting { (fault : Fault) (v : FrontView) → greeting_calls (Err fault) v ≡ [] }
     ensures opens { (greeting : ConnectRequest) (v : FrontView) → greeting.session_id ≡ pos 0
         → is_ahead (told v.clock.base v.tree.zxid) greeting ≡ false
-        → greeting_calls (Ok greeting) v ≡ opening v.clock.tick greeting ∷ [] }
+        → greeting_calls (Ok greeting) v ≡ opening v.clock.terms.tick greeting ∷ [] }
     ensures names { (greeting : ConnectRequest) (v : FrontView) → greeting.session_id ≡ pos 7
         → greeting_calls (Ok greeting) v ≡ [] }
     ensures ahead { (greeting : ConnectRequest) (v : FrontView)

@@ -41,7 +41,7 @@ greeting_opens : (read : Result ConnectRequest Fault) (v : FrontView) → AllByR
 greeting_opens (Err fault) v = tt
 greeting_opens (Ok greeting) v = by (is_ahead (told v.clock.base v.tree.zxid) greeting) (int_eq greeting.session_id (pos 0))
   where
-    by : (ahead new : Bool) → AllByRecursion IsOpening (if ahead then [] else if new then opening v.clock.tick greeting ∷ [] else [])
+    by : (ahead new : Bool) → AllByRecursion IsOpening (if ahead then [] else if new then opening v.clock.terms.tick greeting ∷ [] else [])
     by true new = tt
     by false true = (tt, tt)
     by false false = tt

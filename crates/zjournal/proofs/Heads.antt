@@ -5,11 +5,11 @@ use Rattle.zjournal.specs.declared.format.Format.{Format}
 use Rattle.zjournal.specs.declared.format.Format.TheVariants.{Separate, Running}
 use Rattle.zjournal.specs.declared.place.Place.{Place}
 use Rattle.zjournal.specs.declared.fault.OpenError.{OpenError}
-use Rattle.zjournal.specs.declared.fault.OpenError.TheVariants.{Memory, Failed, NotJournal, Version, Other, Servers, Damaged}
+use Rattle.zjournal.specs.declared.fault.OpenError.TheVariants.{Memory, Failed, NotJournal, Version, Old, Other, Servers, Damaged}
 use Rattle.zjournal.specs.Blocks.{IsText, AreTexts, blocks, IsEnd}
 use Rattle.zjournal.specs.Checksum.{next_after, stamped, stamped_all}
-use Rattle.zjournal.specs.Journal.{mark, word_of, head, version_of, holdings, IsUnmade, IsUnopened}
-use Rattle.zjournal.specs.Faults.{Begins, IsJournal, IsOfOther, IsDamagedAt, IsSuch}
+use Rattle.zjournal.specs.Journal.{mark, word_of, older_word, head, version_of, holdings, IsUnmade, IsUnopened}
+use Rattle.zjournal.specs.Faults.{Begins, IsJournal, HasOtherWord, IsOlder, IsDamagedAt, IsSuch}
 use Rattle.zjournal.specs.Found.{KeepsTo}
 use Rattle.zjournal.specs.Scan.{AreBatches, IsOther}
 use Rattle.zjournal.proofs.Blocks.{first_block}
@@ -40,15 +40,26 @@ same_version Separate Running is = absurd (omega (arith, is))
 same_version Running Separate is = absurd (omega (arith, is))
 same_version Running Running is = refl
 
--- the word is one of another journal
-pub of_other : (format : Format) (given : ℕ) (last file : List ℕ) → Begins (version_of format) given last file
-    → (format ≡ Running) × (12 ≤ length last) × (take 12 last ≢ word_of Running) → IsOfOther file
-of_other format given last file begins h =
+-- the word is another one
+pub other_word : (format : Format) (given : ℕ) (last file : List ℕ) → Begins (version_of format) given last file
+    → (format ≡ Running) × (12 ≤ length last) × (take 12 last ≢ word_of Running) → HasOtherWord file
+other_word format given last file begins h =
     (given, last, begins ∙ ap (λ (f : Format). 1 ∷ mark ++ version_of f ∷ given ∷ last) h.0, h.1, h.2)
 
-pub not_of_other : (format : Format) (given : ℕ) (last file : List ℕ) → Begins (version_of format) given last file
-    → ((format ≡ Running) × (12 ≤ length last) × (take 12 last ≢ word_of Running) → ⊥) → IsOfOther file → ⊥
-not_of_other format given last file begins none other =
+-- it is the older program's
+pub older : (format : Format) (given : ℕ) (last file : List ℕ) → Begins (version_of format) given last file
+    → format ≡ Running → take 12 last ≡ older_word → IsOlder file
+older format given last file begins running is =
+    (given, last, begins ∙ ap (λ (f : Format). 1 ∷ mark ++ version_of f ∷ given ∷ last) running, is)
+
+pub not_older : (format : Format) (given : ℕ) (last file : List ℕ) → Begins (version_of format) given last file
+    → (take 12 last ≡ older_word → ⊥) → IsOlder file → ⊥
+not_older format given last file begins none old =
+    none (sym (ap (λ (l : List ℕ). take 12 (drop 21 l)) (sym old.2 ∙ begins)) ∙ old.3)
+
+pub no_other_word : (format : Format) (given : ℕ) (last file : List ℕ) → Begins (version_of format) given last file
+    → ((format ≡ Running) × (12 ≤ length last) × (take 12 last ≢ word_of Running) → ⊥) → HasOtherWord file → ⊥
+no_other_word format given last file begins none other =
     let both = sym other.2 ∙ begins in
     let same : other.1 ≡ last = ap (λ (l : List ℕ). drop 21 l) both in
     none (
@@ -68,7 +79,7 @@ behind_head Separate servers rest = refl
 behind_head Running servers rest = refl
 
 pub head_damaged : (format : Format) (servers : ℕ) (file last front : List ℕ) → Begins (version_of format) servers last file
-    → (IsOfOther file → ⊥) → front ≡ word_of format ++ 0 ∷ [] → ((behind : List ℕ) → last ≡ front ++ behind → ⊥) → IsDamagedAt servers 0 file
+    → (HasOtherWord file → ⊥) → front ≡ word_of format ++ 0 ∷ [] → ((behind : List ℕ) → last ≡ front ++ behind → ⊥) → IsDamagedAt servers 0 file
 head_damaged format servers file last front begins other front_is none =
     inl (
       refl,
@@ -141,6 +152,7 @@ module _ (servers : ℕ) (file : List ℕ) (start : Place) (some : 0 < servers) 
   other_is_such Failed other = tt
   other_is_such NotJournal other = absurd other
   other_is_such (Version version) other = absurd other
+  other_is_such Old other = absurd other
   other_is_such Other other = absurd other
   other_is_such (Servers given) other = absurd other
   other_is_such (Damaged commit_byte) other =

@@ -3,11 +3,11 @@ use Rattle.std.proofs.Common.{◌≡◌, inl, inr, ℕ, List, ◌∷◌, ◌++�
 use Rattle.zjournal.specs.declared.format.Format.{Format}
 use Rattle.zjournal.specs.declared.format.Format.TheVariants.{Separate, Running}
 use Rattle.zjournal.specs.declared.fault.OpenError.{OpenError}
-use Rattle.zjournal.specs.declared.fault.OpenError.TheVariants.{Memory, Failed, NotJournal, Version, Other, Servers, Damaged}
+use Rattle.zjournal.specs.declared.fault.OpenError.TheVariants.{Memory, Failed, NotJournal, Version, Old, Other, Servers, Damaged}
 use Rattle.zjournal.specs.Blocks.{IsText, blocks}
 use Rattle.zjournal.specs.Checksum.{stamped_all}
-use Rattle.zjournal.specs.Journal.{head, version_of, word_of, holdings, Keeps, IsUnmade, IsBeingMade}
-use Rattle.zjournal.specs.Faults.{Begins, IsOfOther, IsDamagedAt, IsSuch, IsOfContent}
+use Rattle.zjournal.specs.Journal.{head, version_of, word_of, older_word, holdings, Keeps, IsUnmade, IsBeingMade}
+use Rattle.zjournal.specs.Faults.{Begins, HasOtherWord, IsOlder, IsDamagedAt, IsSuch, IsOfContent}
 use Rattle.zjournal.specs.Laws.{FilesHaveOneReading, WhatStandsHasNoFault}
 use Rattle.zjournal.proofs.Blocks.{first_block, same_blocks, next_block}
 use Rattle.zjournal.proofs.Heads.{same_version}
@@ -28,6 +28,9 @@ take_word : (format : Format) (rest : List ℕ) → take 12 (word_of format ++ r
 take_word Separate rest = refl
 take_word Running rest = refl
 
+words_differ : older_word ≡ word_of Running → ⊥
+words_differ is = omega (arith, ap (λ (l : List ℕ). get_or l 11 0) is)
+
 module _ (servers : ℕ) (file : List ℕ) (batches : List (List ℕ)) (k : Keeps servers batches file) where
   begins : Begins (version_of k.format) servers (word_of k.format ++ 0 ∷ (blocks (stamped_all k.format 1 batches) ++ k.end)) file
   begins = k.split ∙ blocks_begin k.format servers batches k.end
@@ -42,11 +45,17 @@ module _ (servers : ℕ) (file : List ℕ) (batches : List (List ℕ)) (k : Keep
   pub kept_is_made : IsBeingMade servers file → ⊥
   kept_is_made = begun_is_made servers (version_of k.format) servers _ file begins
 
-  not_of_other : IsOfOther file → ⊥
-  not_of_other other =
-      other.4 (ap (λ (l : List ℕ). take 12 (drop 21 l)) (sym other.2 ∙ begins)
+  has_the_word : (given : ℕ) (rest : List ℕ) → Begins (version_of Running) given rest file → take 12 rest ≡ word_of Running
+  has_the_word given rest other =
+      ap (λ (l : List ℕ). take 12 (drop 21 l)) (sym other ∙ begins)
       ∙ take_word k.format (0 ∷ (blocks (stamped_all k.format 1 batches) ++ k.end))
-      ∙ ap (λ (f : Format). word_of f) (sym (begins_so Running other.0 other.1 other.2)))
+      ∙ ap (λ (f : Format). word_of f) (sym (begins_so Running given rest other))
+
+  no_other_word : HasOtherWord file → ⊥
+  no_other_word other = other.4 (has_the_word other.0 other.1 other.2)
+
+  not_older : IsOlder file → ⊥
+  not_older old = words_differ (sym old.3 ∙ has_the_word old.0 old.1 old.2)
 
   not_damaged : (at : ℕ) → IsDamagedAt servers at file → ⊥
   not_damaged at (inl other) =
@@ -67,7 +76,8 @@ module _ (servers : ℕ) (file : List ℕ) (batches : List (List ℕ)) (k : Keep
   kept_has_none Failed content such = content
   kept_has_none NotJournal content such = such (inr (version_of k.format, servers, word_of k.format ++ 0 ∷ (blocks (stamped_all k.format 1 batches) ++ k.end), begins))
   kept_has_none (Version version) content such = such.3 k.format (ap (λ (l : List ℕ). get_or l 19 0) (sym such.2 ∙ begins))
-  kept_has_none Other content such = not_of_other such
+  kept_has_none Old content such = not_older such
+  kept_has_none Other content such = no_other_word such.0
   kept_has_none (Servers given) content such = such.3 (ap (λ (l : List ℕ). get_or l 20 0) (sym such.2 ∙ begins))
   kept_has_none (Damaged at) content such = not_damaged at such
 
@@ -83,7 +93,8 @@ module _ (servers : ℕ) (file : List ℕ) (made : IsBeingMade servers file) whe
   unmade_has_none Failed content such = content
   unmade_has_none NotJournal content such = such (inl made)
   unmade_has_none (Version version) content such = begun_is_made servers version such.0 such.1 file such.2 made
-  unmade_has_none Other content such = begun_is_made servers (version_of Running) such.0 such.1 file such.2 made
+  unmade_has_none Old content such = begun_is_made servers (version_of Running) such.0 such.1 file such.2 made
+  unmade_has_none Other content such = let h = such.0 in begun_is_made servers (version_of Running) h.0 h.1 file h.2 made
   unmade_has_none (Servers given) content such = begun_is_made servers (version_of such.0) given such.1 file such.2 made
   unmade_has_none (Damaged at) content such = unmade_is_whole at such
 

@@ -21,11 +21,15 @@ abbrev pub version_of : Format → ℕ
 version_of Separate = 1
 version_of Running = 2
 
--- In version 2 the word says what the journal is of, so that no other program opens it. Version 1
--- has none.
+-- In version 2 the word says what the journal is of, so that no other program opens it, and no
+-- program of another version. Version 1 has none.
 abbrev pub word_of : Format → List ℕ
 word_of Separate = codes "            "
-word_of Running = codes "tree of zk  "
+word_of Running = codes "tree of zk 2"
+
+-- the word of the older program, whose batches have another text
+abbrev pub older_word : List ℕ
+older_word = codes "tree of zk  "
 
 abbrev pub head_of : ℕ → ℕ → List ℕ → List ℕ
 head_of version servers more = mark ++ version ∷ servers ∷ more

@@ -4,7 +4,7 @@ use crate::DeviceError;
 use std::alloc::{AllocError, AllocFailed};
 use thiserror::Error;
 
-/// Why a file isn't opened. With the last five the file is unchanged.
+/// Why a file isn't opened. With the last six the file is unchanged.
 #[derive(Clone, Copy, Debug, PartialEq, Eq, Error)]
 pub enum OpenError {
     /// Out of memory.
@@ -19,6 +19,9 @@ pub enum OpenError {
     /// The journal has the format of this other version.
     #[error("a journal of version {0}")]
     Version(u8),
+    /// The journal is that of this program before the limits of a tree were part of its text.
+    #[error("a folder of an older version: ./zk upgrade FOLDER")]
+    Old,
     /// The journal is that of another program.
     #[error("a journal of something else")]
     Other,

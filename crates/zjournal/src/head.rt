@@ -9,7 +9,7 @@ ghost use Rattle.std.specs.Prelude.{◌≡◌, ◌<◌, ◌≤◌, ◌≢◌, �
 ghost use Rattle.std.specs.Prelude.{take, drop, IfOk, IfErr, IfSome, IfNone, IsErrOf, IsTrue, ◌↔◌};
 ghost use Rattle.zjournal.specs.declared.format.Format.{Format};
 ghost use Rattle.zjournal.specs.declared.format.Format.TheVariants.{Running};
-ghost use Rattle.zjournal.specs.Journal.{head, version_of, word_of, IsUnmade, IsUnopened};
+ghost use Rattle.zjournal.specs.Journal.{head, version_of, word_of, older_word, IsUnmade, IsUnopened};
 ghost use Rattle.zjournal.specs.Journal.{IsUnopenedIn};
 ghost use Rattle.zjournal.specs.Faults.{IsSuch};
 
@@ -18,7 +18,10 @@ use crate::format::Format;
 use crate::place::HEAD_END;
 
 // What a journal of version 2 is of.
-const WORD: [u8; 12] = *b"tree of zk  ";
+const WORD: [u8; 12] = *b"tree of zk 2";
+
+// What a journal of version 2 is of, if the older program made it.
+const OLDER_WORD: [u8; 12] = *b"tree of zk  ";
 
 // Returns the number of a format's version.
 fn version_of(format: Format) -> u8
@@ -121,7 +124,7 @@ pub fn unopened_format(bytes: &[u8], servers: u8) -> Option<Format>
     None
 }
 
-// Returns whether this is the end of a head of version 2 that is of something else.
+// Returns whether this is the end of a head of version 2 that has another word.
 fn has_other_word(format: Format, last: &[u8]) -> bool
     ensures { IsTrue result
         ↔ ((format ≡ Running) × (12 ≤ length last.now) × (take 12 last.now ≢ word_of Running)) }
@@ -130,6 +133,14 @@ fn has_other_word(format: Format, last: &[u8]) -> bool
         Format::Separate => false,
         Format::Running => last.len() >= 12 && &last[..12] != word_of(format).as_slice(),
     }
+}
+
+// Returns whether this is the end of a head that the older program made.
+fn has_older_word(last: &[u8]) -> bool
+    requires { 12 ≤ length last.now }
+    ensures { IsTrue result ↔ (take 12 last.now ≡ older_word) }
+{
+    &last[..12] == OLDER_WORD.as_slice()
 }
 
 /// Returns the format of a journal for this number of servers, if its head is that of one.
@@ -154,6 +165,9 @@ pub fn check_head(bytes: &[u8], servers: u8) -> Result<Format, OpenError>
         return Err(OpenError::Version(version));
     };
     if has_other_word(format, last) {
+        if has_older_word(last) {
+            return Err(OpenError::Old);
+        }
         return Err(OpenError::Other);
     }
     if given != servers {

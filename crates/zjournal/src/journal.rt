@@ -40,6 +40,14 @@ impl<D: Device> Journal<D> {
         &self.device
     }
 
+    /// Ends the journal, and returns the device that holds the file.
+    pub fn into_device(self) -> D
+        ensures { result ≡ device_of self }
+    {
+        let Journal { device, .. } = self;
+        device
+    }
+
     /// Returns the length of the file's blocks in bytes, without the commit byte after them.
     pub fn size(&self) -> usize
         ensures { result ≡ size_of self.now }

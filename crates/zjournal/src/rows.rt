@@ -5,7 +5,9 @@ ghost use Rattle.zjournal.specs.Blocks.{at_rest, IsEnd};
 ghost use Rattle.zjournal.specs.Checksum.{adler_after, stamped, stamped_all};
 ghost use Rattle.zjournal.specs.declared.format.Format.TheVariants.{Separate, Running};
 ghost use Rattle.zjournal.specs.Device.{Cut, IsEither, Torn};
-ghost use Rattle.zjournal.specs.Journal.{head, holdings, IsUnmade, Keeps};
+ghost use Rattle.zjournal.specs.declared.fault.OpenError.TheVariants.{Old, Other};
+ghost use Rattle.zjournal.specs.Faults.{IsSuch};
+ghost use Rattle.zjournal.specs.Journal.{head, head_of, holdings, IsUnmade, Keeps};
 ghost use Rattle.zjournal.specs.Renewal.{IsOldOrNew};
 
 /// A checksum, one that continues from another, and a text after its own.
@@ -27,13 +29,20 @@ pub fn checksums_run_on()
 /// In version 2 a file without its first block holds no batches, nor does one whose blocks were
 /// swapped.
 pub fn missing_blocks_are_seen()
-    ensures head { head Running 3 ≡ codes "jellqupas journal " ++ 2 ∷ 3 ∷ codes "tree of zk  " }
+    ensures head { head Running 3 ≡ codes "jellqupas journal " ++ 2 ∷ 3 ∷ codes "tree of zk 2" }
     ensures both { Keeps 3 (codes "a" ∷ codes "b" ∷ [])
         (at_rest (head Running 3 ∷ codes "00620062a" ∷ codes "012600c4b" ∷ [])) }
     ensures first_missing { (batches : List (List ℕ))
         → Keeps 3 batches (at_rest (head Running 3 ∷ codes "012600c4b" ∷ [])) → ⊥ }
     ensures other_order { (batches : List (List ℕ)) → Keeps 3 batches
         (at_rest (head Running 3 ∷ codes "012600c4b" ∷ codes "00620062a" ∷ [])) → ⊥ }
+{}
+
+/// A file of the older program, one of another program, and one of this one.
+pub fn words_are_compared()
+    ensures older { IsSuch 3 (1 ∷ head_of 2 3 (codes "tree of zk  " ++ 0 ∷ 0 ∷ [])) Old }
+    ensures other { IsSuch 3 (1 ∷ head_of 2 3 (codes "tree of zq  " ++ 0 ∷ 0 ∷ [])) Other }
+    ensures ours { IsSuch 3 (1 ∷ head_of 2 3 (codes "tree of zk 2" ++ 0 ∷ 0 ∷ [])) Old → ⊥ }
 {}
 
 /// A file at rest: blocks, and a clear commit byte.

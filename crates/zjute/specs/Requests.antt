@@ -9,7 +9,7 @@ use Rattle.zjute.specs.declared.request.CreateTtl.{CreateTtl}
 use Rattle.zjute.specs.declared.request.AtVersion.{AtVersion}
 use Rattle.zjute.specs.declared.request.Look.{Look}
 use Rattle.zjute.specs.declared.request.SetDataRequest.{SetDataRequest}
-use Rattle.zjute.specs.declared.request.SetAcl.{SetAcl}
+use Rattle.zjute.specs.declared.request.SetAclRequest.{SetAclRequest}
 use Rattle.zjute.specs.declared.request.WatchesAt.{WatchesAt}
 use Rattle.zjute.specs.declared.request.AddWatch.{AddWatch}
 use Rattle.zjute.specs.declared.request.Auth.{Auth}
@@ -57,7 +57,7 @@ set_data = fields (both buffer (both buffer int)) (λ s. (s.path, (s.bytes, s.ve
     (λ f. record { path = f.0; bytes = f.1.0; version = f.1.1 })
 
 -- `SetACLRequest`
-unfoldable pub set_acl : Form SetAcl
+unfoldable pub set_acl : Form SetAclRequest
 set_acl = fields (both buffer (both acls_or_null int)) (λ s. (s.path, (s.acls, s.version)))
     (λ f. record { path = f.0; acls = f.1.0; version = f.1.1 })
 

@@ -52,7 +52,7 @@ pub use part::{LookPart, Looks, PartRequest, Parts};
 pub use reading::read_request;
 pub use reply::{Body, PartResult, Reply, Results};
 pub use request::{
-    AddWatch, Asked, AtVersion, Auth, CreateRequest, CreateTtl, Look, Request, SetAcl,
+    AddWatch, Asked, AtVersion, Auth, CreateRequest, CreateTtl, Look, Request, SetAclRequest,
     SetDataRequest, SetWatches, SetWatches2, WatchesAt,
 };
 pub use stat::StatRecord;

@@ -8,8 +8,8 @@ ghost use Rattle.zjute.specs.Requests.{watches_at, add_watch, auth, set_watches,
 use crate::field_reading::{buffer_of, int_at, long_at};
 use crate::list_reading::{acls_of, texts_of};
 use crate::request::{
-    AddWatch, AtVersion, Auth, CreateRequest, CreateTtl, Look, SetAcl, SetDataRequest, SetWatches,
-    SetWatches2, WatchesAt,
+    AddWatch, AtVersion, Auth, CreateRequest, CreateTtl, Look, SetAclRequest, SetDataRequest,
+    SetWatches, SetWatches2, WatchesAt,
 };
 use std::alloc::Global;
 use zcodec::{ReadError, flag_at};
@@ -80,13 +80,13 @@ pub(crate) fn set_data_of(alloc: Global, bytes: &[u8]) -> Result<(SetDataRequest
 
 /// Reads a `SetACLRequest`.
 #[tactic(auto, unfolding(crate::specs::Requests::set_acl))]
-pub(crate) fn set_acl_of(alloc: Global, bytes: &[u8]) -> Result<(SetAcl, &[u8]), ReadError>
+pub(crate) fn set_acl_of(alloc: Global, bytes: &[u8]) -> Result<(SetAclRequest, &[u8]), ReadError>
     ensures { Gives (λ x. (x.0, x.1.now)) result (set_acl.read bytes.now) }
 {
     let (path, rest) = buffer_of(alloc, bytes)?;
     let (acls, rest) = acls_of(alloc, rest)?;
     let (version, rest) = int_at(rest)?;
-    let set = SetAcl {
+    let set = SetAclRequest {
         path,
         acls,
         version,

@@ -59,7 +59,7 @@ pub struct SetDataRequest {
 
 /// A node and its new ACL (`SetACLRequest` of zookeeper.jute).
 #[derive(Drop)]
-pub struct SetAcl {
+pub struct SetAclRequest {
     /// The path of the node; `None` is a null string.
     pub path: Option<Bytes>,
     /// Its new ACL; `None` is a null list.
@@ -137,7 +137,7 @@ pub enum Asked {
     /// 6: get the ACL of a node, by its path (`GetACLRequest`).
     GetAcl(Option<Bytes>),
     /// 7: write the ACL of a node.
-    SetAcl(SetAcl),
+    SetAcl(SetAclRequest),
     /// 8: get the names of a node's children.
     GetChildren(Look),
     /// 9: catch up with the leader, by a path (`SyncRequest`).

@@ -1,9 +1,11 @@
 -- A row that was put in under a new Id can go beneath a live node, and then a node was added.
-use Rattle.std.proofs.Common.{◌≡◌, ◌≢◌, ◌⊎◌, ◌≤◌, ◌+◌, [], true, false, Some, None, IsSome, is_some, refl, sym, ap, ◌∙◌, arith}
+use Rattle.std.proofs.Common.{◌≡◌, ◌≢◌, ◌⊎◌, ◌<◌, ◌≤◌, ◌+◌, [], true, false, Some, None, IsSome, is_some, refl, sym, ap, ◌∙◌, arith}
 use mathlib.Core.Path.{subst}
 use Rattle.std.specs.Option.{option_and_then}
+use Rattle.std.specs.FinMap as finite
 use Rattle.std.specs.FinMap.{get, insert, remove}
 use Rattle.zslots.specs.declared.id.Id.{Id}
+use Rattle.zslots.specs.declared.limits.TheConstants.{MAX_SLOTS}
 use Rattle.zslots.specs.SlotsView.{SlotsView, Items, IsNew}
 use Rattle.zslots.proofs.Maps.{id_cmp_total, id_cmp_same}
 use Rattle.ztree.specs.declared.node.Node.{Node}
@@ -13,6 +15,7 @@ use Rattle.znodes.specs.declared.nodes.Nodes.TheInside.{Inside}
 use Rattle.znodes.specs.NodesView.{NodesView, Taken, CanReturn, Returns, Adds, IsKnownOwner, SameButRoom, path_of}
 use Rattle.znodes.specs.declared.row.Row.{Row}
 use Rattle.znodes.specs.support.Rows.{Key, IsLinked, IsThreaded, lone_row, live_path, taken_row, nodes_of, places_of, held_of, known_of}
+use Rattle.znodes.specs.support.Counting.{AreCounts}
 use Rattle.znodes.specs.support.Fields.{view_of}
 use Rattle.znodes.specs.support.Linking.{Holds}
 use Rattle.znodes.proofs.Found.{has_node-index}
@@ -21,7 +24,7 @@ use Rattle.znodes.proofs.OneRow.{linked-joined, mortal-joined, parents-joined, n
 use Rattle.znodes.proofs.Linked.{parent-named}
 
 -- a row that comes in under a new Id as if its node had been taken away
-module _ (s : Inside) (threaded : IsThreaded s.slots.items s.index.ids s.owners s.timed) (after : SlotsView Row) (id : Id) (path : Path) (node : Node)
+module _ (s : Inside) (threaded : IsThreaded s.slots.items s.index.ids s.owners s.timed s.counts) (after : SlotsView Row) (id : Id) (path : Path) (node : Node)
     (key : Key) (same : key ≡ path) (new : IsNew s.slots id) (items : after.items ≡ insert s.slots.items id (lone_row s.alloc path node (Some key))) where
   abbrev m : Items Row
   m = s.slots.items
@@ -29,11 +32,13 @@ module _ (s : Inside) (threaded : IsThreaded s.slots.items s.index.ids s.owners 
   abbrev x : Row
   x = lone_row s.alloc path node (Some key)
 
-  pub threaded-joined : IsThreaded after.items s.index.ids s.owners s.timed
-  threaded-joined = subst (λ w. IsThreaded w s.index.ids s.owners s.timed) (sym items) (record {
+  pub threaded-joined : finite.len m < MAX_SLOTS → IsThreaded after.items s.index.ids s.owners s.timed s.counts
+  threaded-joined room = subst (λ w. IsThreaded w s.index.ids s.owners s.timed s.counts) (sym items) (record {
     linked = linked-joined m s.index.ids s.owners id x key threaded.linked new.1 refl same refl;
     mortal = mortal-joined m s.index.ids s.owners id x key threaded.linked new.1 refl same refl s.timed threaded.mortal;
     parents = parents-joined m s.index.ids s.owners id x key threaded.linked new.1 refl same refl threaded.parents;
+    counted = subst (λ nodes. AreCounts nodes s.counts) (sym (nodes-joined m s.index.ids s.owners id x key threaded.linked new.1 refl same refl)) threaded.counted;
+    few = maps.len-insert-most id_cmp_total id_cmp_same m id x MAX_SLOTS room;
   })
 
   pub joined : after.given ≡ s.slots.given + 1 → Holds (view_of s) (view_of (record s { slots = after })) id (path, node)

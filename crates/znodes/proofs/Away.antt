@@ -2,6 +2,7 @@
 use Rattle.std.proofs.Common.{◌≡◌, ◌≢◌, ◌⊎◌, inl, inr, Option, Some, None, refl, sym, ap, ◌∙◌}
 use mathlib.Core.Path.{subst}
 use Rattle.std.specs.Option.{option_map}
+use Rattle.std.specs.FinMap as finite
 use Rattle.std.specs.FinMap.{get, remove}
 use Rattle.zslots.specs.declared.id.Id.{Id}
 use Rattle.zslots.specs.declared.list.List.{List as IdList}
@@ -17,6 +18,7 @@ use Rattle.znodes.specs.support.OwnerLists.{OwnerLists, list_of}
 use Rattle.znodes.specs.support.Rows.{Key, IsLinked, parent_key, owner_key, owned_by, fellow_links}
 use Rattle.znodes.specs.support.Linking.{with_fellows, with_key, without_child, without_owned, owners_without}
 use Rattle.znodes.proofs.Faces.{Face, face, parent_face, owner_face, by-face, face-at, at-here, at-elsewhere, at-kept, unchild-kept, unowned-kept}
+use Rattle.znodes.proofs.Few.{others-many}
 use Rattle.znodes.proofs.Heads.{owned-changed}
 use Rattle.znodes.proofs.Linked.{owner-list, owned-are}
 
@@ -60,6 +62,10 @@ module _ (m : Items Row) (ids : IdsByPath) (owners : OwnerLists) (id : Id) (r : 
     face-elsewhere q other =
         ap (option_map face) (at-elsewhere (without_owned cut list id) id (λ x. record x { key = Some key }) q other)
         ∙ unowned-kept face (λ _ _. refl) cut list id q ∙ unchild-kept face (λ _ _. refl) (λ _ _. refl) m (get ids (parent_of r.path)) id q
+
+    -- there are as many rows
+    pub rows-away : finite.len (away_with list) ≡ finite.len m
+    rows-away = others-many m (away_with list) id r after there face-here face-elsewhere
 
     pub parent-none : key_at parent_key (away_with list) id ≡ None
     parent-none = face-at parent_face (get (away_with list) id) after face-here

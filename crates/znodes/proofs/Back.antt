@@ -2,6 +2,7 @@
 use Rattle.std.proofs.Common.{◌≡◌, ◌≢◌, ◌⊎◌, inl, inr, ℕ, false, true, cond, [], Option, Some, None, IsSome, refl, sym, ap, ◌∙◌}
 use mathlib.Core.Path.{subst}
 use Rattle.std.specs.Option.{option_map, option_map_or, option_and_then}
+use Rattle.std.specs.FinMap as finite
 use Rattle.std.specs.FinMap.{get, insert}
 use Rattle.zslots.specs.declared.id.Id.{Id}
 use Rattle.zslots.specs.declared.list.List.{List as IdList}
@@ -21,6 +22,7 @@ use Rattle.znodes.specs.support.Rows.{Key, IsLinked, above, parent_key, owner_ke
 use Rattle.znodes.specs.support.Linking.{with_fellows, with_key, with_child, with_owned, owners_with}
 use Rattle.znodes.proofs.OwnerMaps.{nobody_is_none, somebody-same}
 use Rattle.znodes.proofs.Faces.{Face, face, parent_face, owner_face, by-face, face-at, part-there, at-here, at-elsewhere, at-kept, child-kept, owned-kept}
+use Rattle.znodes.proofs.Few.{others-many}
 use Rattle.znodes.proofs.Heads.{owned-changed}
 use Rattle.znodes.proofs.Linked.{above-path, owned-are}
 
@@ -83,6 +85,10 @@ module _ (m : Items Row) (ids : IdsByPath) (owners : OwnerLists) (id : Id) (r : 
     face-elsewhere q other =
         ap (option_map face) (at-elsewhere (with_owned put list id) id (λ x. record x { key = None }) q other)
         ∙ owned-kept face (λ _ _. refl) put list id q ∙ child-kept face (λ _ _. refl) (λ _ _. refl) m (get ids (parent_of r.path)) id q
+
+    -- there are as many rows
+    pub rows-back : finite.len (back_with list) ≡ finite.len m
+    rows-back = others-many m (back_with list) id r after there face-here face-elsewhere
 
     pub parent-now : r.path ≢ [] → key_at parent_key (back_with list) id ≡ Some (parent_of r.path)
     parent-now below = face-at parent_face (get (back_with list) id) after face-here ∙ above-path r.path below

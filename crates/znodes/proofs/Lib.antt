@@ -21,5 +21,11 @@ pub mod OwnersKnown
 pub mod Opening
 pub mod Mortal
 pub mod Parents
+pub mod Few
+pub mod Sums
+pub mod Counted
+pub mod InOrder
+pub mod TheirPaths
 pub mod StaleRows
+pub mod OwnedPaths
 pub mod index_lemmas

@@ -1,13 +1,14 @@
 -- The root alone: its row is in order, and what it shows.
-use Rattle.std.proofs.Common.{◌≡◌, ◌≢◌, ◌⊎◌, inl, inr, [], Option, Some, None, refl, sym, ap, ◌∙◌}
+use Rattle.std.proofs.Common.{◌≡◌, ◌≢◌, ◌⊎◌, ◌≤◌, inl, inr, [], Option, Some, None, refl, sym, ap, subst, ◌∙◌, arith}
 use Rattle.std.specs.Global.{Global}
 use Rattle.std.specs.Option.{option_map, option_map_or, option_and_then}
 use Rattle.std.specs.Ordering.{nat_cmp}
 use Rattle.std.specs.Cmp.{nat_cmp_total}
 use Rattle.std.specs.FinMap as finite
-use Rattle.std.specs.FinMap.{get, insert, get-empty, same_map, nat_cmp-IsAntisymmetric}
+use Rattle.std.specs.FinMap.{get, insert, get-empty, len-empty, same_map, nat_cmp-IsAntisymmetric}
 use Rattle.zpath.specs.Grammar.{path_cmp}
 use Rattle.zslots.specs.declared.id.Id.{Id}
+use Rattle.zslots.specs.declared.limits.TheConstants.{MAX_SLOTS}
 use Rattle.zslots.specs.declared.list.List.{List as IdList}
 use Rattle.zslots.specs.SlotsView.{Items}
 use Rattle.zslots.specs.Ids.{id_cmp}
@@ -25,6 +26,8 @@ use Rattle.ztree.proofs.Sorted.{paths_total, same_path}
 use Rattle.znodes.specs.declared.row.Row.{Row}
 use Rattle.znodes.specs.support.OwnerLists.{OwnerLists, somebody}
 use Rattle.znodes.specs.support.Rows.{IsLinked, HasTimed, NamesParents, above, lone_row, timed_by, timed_key, timed_links, live_path, taken_row, parent_key, owner_key, node_at, nodes_of, places_of, held_of, known_of, children_at, children_of, owned_by, sibling_links, fellow_links}
+use Rattle.znodes.specs.support.Counting.{AreCounts, IsSmall, no_counts, counts_with}
+use Rattle.znodes.proofs.Counted.{counts-none, counts-more}
 use Rattle.znodes.proofs.Views.{get-nodes, get-places, get-held, get-known, insert-is}
 
 -- no owner's list, and no owner
@@ -119,6 +122,16 @@ module _ (alloc : Global) (root : Node) (id : Id) where
       insert-is paths_total same_path finite.empty (nodes_of rows ids) []
       (λ q other. get-nodes rows ids q ∙ ap (option_and_then (node_at rows)) (below q other) ∙ sym (get-empty path_cmp q))
       root (get-nodes rows ids [] ∙ ap (option_and_then (node_at rows)) at_root ∙ ap (option_map (λ (r : Row). r.node)) here)
+
+  -- and what is counted of it
+  pub counted-alone : IsSmall root → AreCounts (nodes_of rows ids) (counts_with no_counts root)
+  counted-alone little =
+      subst (λ nodes. AreCounts nodes (counts_with no_counts root)) (sym nodes-alone)
+      (counts-more finite.empty no_counts counts-none [] root (get-empty path_cmp []) little)
+
+  pub few-alone : finite.len rows ≤ MAX_SLOTS
+  few-alone =
+      maps.len-insert-most id_cmp_total id_cmp_same no_rows id row MAX_SLOTS (let none = len-empty id_cmp Row in omega (arith, none))
 
   pub places-alone : places_of rows ≡ insert finite.empty id []
   places-alone =

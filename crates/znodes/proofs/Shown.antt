@@ -34,7 +34,7 @@ if_none P (Some x) h = tt
 if_none P None h = h refl
 
 -- a row is live where it has no key
-live_row : (m : Items Row) (id : Id) (r : Row) → get m id ≡ Some r → r.key ≡ None → live_at m id ≡ Some r
+pub live_row : (m : Items Row) (id : Id) (r : Row) → get m id ≡ Some r → r.key ≡ None → live_at m id ≡ Some r
 live_row m id r is live = ap (option_and_then if_live) is ∙ ap (λ b. cond b (Some r) None) (no_key-live r live)
 
 pub live_parts : (m : Items Row) (id : Id) (r : Row) → live_at m id ≡ Some r → (get m id ≡ Some r) × (r.key ≡ None)

@@ -1,5 +1,5 @@
 -- Which Ids name the nodes that a tick removes, from the list of the nodes that ticks may remove.
-use Rattle.std.proofs.Common.{◌≡◌, ◌≢◌, inl, inr, ℕ, Bool, true, false, ◌&&◌, ◌||◌, cond, List, [], ◌∷◌, length, Option, Some, None, refl, sym, ap, ◌∙◌}
+use Rattle.std.proofs.Common.{◌≡◌, ◌≢◌, inl, inr, ℕ, Bool, true, false, ◌&&◌, cond, [], ◌∷◌, length, Option, Some, None, refl, sym, ap, ◌∙◌}
 use mathlib.Core.Path.{subst}
 use Rattle.std.specs.Prelude.{◌==◌, ◌↔◌}
 use mathlib.Core.Bool.{true≢false}
@@ -17,24 +17,21 @@ use Rattle.ztree.specs.Tree.{Path, children}
 use Rattle.ztree.specs.Stale.{may_end, is_over, is_due, is_stale, is_stale_at}
 use Rattle.ztree.specs.declared.term.Term.{Term}
 use Rattle.ztree.specs.declared.term.Term.TheVariants.{Unlimited, Timed, Container}
-use Rattle.zpath.specs.Grammar.{path_cmp}
-use Rattle.std.specs.Ordering.{eq_by_cmp}
-use Rattle.zslots.proofs.Members.{never_both}
-use Rattle.ztree.specs.Laws.{has_path, NoneTwice}
-use Rattle.ztree.proofs.Sorted.{paths_total, same_path}
-use Rattle.ztree.proofs.Maps.{same_some, tied, tied_same}
+use Rattle.ztree.specs.Laws.{has_path}
+use Rattle.ztree.proofs.Maps.{same_some}
 use Rattle.ztree.proofs.StaleGone.{both}
 use Rattle.znodes.specs.declared.row.Row.{Row}
 use Rattle.znodes.specs.declared.nodes.Nodes.TheInside.{Inside}
-use Rattle.znodes.specs.NodesView.{NodesView, AreAt, AreStale, path_of}
+use Rattle.znodes.specs.NodesView.{NodesView, AreStale}
 use Rattle.znodes.specs.support.Rows.{Key, IsLinked, HasTimed, timed_by, timed_key, timed_links}
 use Rattle.znodes.specs.support.Fields.{view_of}
 use Rattle.znodes.specs.support.Reading.{if_live, live_at, is_stale_row, IsStale, AreStaleIds, stale_of}
 use Rattle.znodes.proofs.Found.{live_node, found_row}
-use Rattle.znodes.proofs.Linked.{live_key, and-then, parent-named}
+use Rattle.znodes.proofs.Linked.{live_key, and-then}
 use Rattle.znodes.proofs.Siblings.{children-count, both_ways}
 use Rattle.znodes.proofs.Shown.{live_parts, path_of-live, path-same, no_path, own_list}
 use Rattle.znodes.proofs.Mortal.{an_end}
+use Rattle.znodes.proofs.TheirPaths.{TheirPaths, their-paths}
 
 module _ (m : Items Row) (tick : ℕ) where
   first_or_later : (id i : Id) (ids : Ids) (b : Bool) → is_stale_row m tick i ≡ b → (IsIn id (stale_of m tick ids) → IsIn id ids × (is_stale_row m tick id ≡ true)) → IsIn id (cons_option (cond b (Some i) None) (stale_of m tick ids)) → IsIn id (i ∷ ids) × (is_stale_row m tick id ≡ true)
@@ -133,57 +130,11 @@ module _ (s : Inside) (linked : IsLinked s.slots.items s.index.ids s.owners) (v 
             each : (id : Id) → IsIn id (stale_of s.slots.items tick all) ↔ IsStale v tick id
             each id = (from id, back id)
 
--- the paths that Ids name
 module _ (s : Inside) (linked : IsLinked s.slots.items s.index.ids s.owners) (v : NodesView) (shown : view_of s ≡ v) (tick : ℕ) where
-  -- a path is that of one Id alone
-  one-id : (a b : Id) (path : Path) → path_of v a ≡ Some path → path_of v b ≡ Some path → a ≡ b
-  one-id a b path e f = same_some a b (sym (parent-named s v shown linked a path e) ∙ parent-named s v shown linked b path f)
-
-  -- and the paths of these Ids
-  record TheirPaths (ids : Ids) : Type 0 where
-    paths : List Path
-    named : AreAt v.places ids paths
-    of_ids : (path : Path) → has_path paths path ≡ true → (id : Id) × IsIn id ids × (path_of v id ≡ Some path)
-    all_ids : (id : Id) → IsIn id ids → (path : Path) → path_of v id ≡ Some path → has_path paths path ≡ true
-    once : NoneTwice path_cmp paths
-
-  not_again : (id : Id) (ids : Ids) → NotIn id ids → (path : Path) → path_of v id ≡ Some path → (rest : TheirPaths ids) → (b : Bool) → has_path rest.paths path ≡ b → b ≡ false
-  not_again id ids free path at rest false is = refl
-  not_again id ids free path at rest true is =
-      let other = rest.of_ids path is in
-      absurd (never_both id ids (subst (λ i. IsIn i ids) (one-id other.0 id path other.2 at) other.1) free)
-
-  their-paths : (ids : Ids) → NoTwo ids → ((id : Id) → IsIn id ids → IsStale v tick id) → TheirPaths ids
-  their-paths [] apart stale = record { paths = []; named = tt; of_ids = λ path e. cc; all_ids = λ id has path e. absurd has; once = tt }
-  their-paths (id ∷ ids) apart stale =
-      let first = stale id (inl refl) in
-      let rest = their-paths ids apart.1 (λ i has. stale i (inr has)) in
-      record {
-        paths = first.0 ∷ rest.paths;
-        named = (first.1, rest.named);
-        of_ids = λ path e. at_first path first.0 first.1 (rest.of_ids path) (eq_by_cmp path_cmp path first.0) refl e;
-        all_ids = λ i has path e. all i path has first.0 first.1 rest e;
-        once = (not_again id ids apart.0 first.0 first.1 rest (has_path rest.paths first.0) refl, rest.once);
-      }
-    where
-      at_first : (path here : Path) → path_of v id ≡ Some here → {more : Bool} → (more ≡ true → (i : Id) × IsIn i ids × (path_of v i ≡ Some path)) → (b : Bool) → eq_by_cmp path_cmp path here ≡ b → (b || more) ≡ true → (i : Id) × IsIn i (id ∷ ids) × (path_of v i ≡ Some path)
-      at_first path here at rest true same e = (id, inl refl, at ∙ ap Some (sym (tied_same paths_total same_path path here same)))
-      at_first path here at rest false same e = let found = rest e in (found.0, inr found.1, found.2)
-
-      all : (i : Id) (path : Path) → IsIn i (id ∷ ids) → (here : Path) → path_of v id ≡ Some here → (rest : TheirPaths ids) → path_of v i ≡ Some path → (eq_by_cmp path_cmp path here || has_path rest.paths path) ≡ true
-      all i path (inl is) here at rest e =
-          let same : path ≡ here = same_some path here (sym e ∙ ap (path_of v) is ∙ at) in
-          ap (λ q. eq_by_cmp path_cmp q here || has_path rest.paths path) same ∙ ap (λ b. b || has_path rest.paths path) (tied paths_total same_path here)
-      all i path (inr has) here at rest e = ap (λ b. eq_by_cmp path_cmp path here || b) (rest.all_ids i has path e) ∙ either (eq_by_cmp path_cmp path here)
-        where
-          either : (b : Bool) → (b || true) ≡ true
-          either true = refl
-          either false = refl
-
   -- they are the paths of all nodes that a tick removes
   pub are-stale-paths : (ids : Ids) → AreStaleIds v tick ids → AreStale v.nodes v.places tick ids
   are-stale-paths ids stale =
-      let their = their-paths ids stale.once (λ id has. (stale.each id).0 has) in
+      let their = their-paths s linked v shown ids stale.once (λ id has. let found = (stale.each id).0 has in (found.0, found.1)) in
       record {
         paths = their.paths;
         named = their.named;
@@ -191,13 +142,13 @@ module _ (s : Inside) (linked : IsLinked s.slots.items s.index.ids s.owners) (v 
         once = their.once;
       }
     where
-      to : (their : TheirPaths ids) (path : Path) → has_path their.paths path ≡ true → is_stale_at v.nodes tick path ≡ true
+      to : (their : TheirPaths s linked v shown ids) (path : Path) → has_path their.paths path ≡ true → is_stale_at v.nodes tick path ≡ true
       to their path e =
           let found = their.of_ids path e in
           let its = (stale.each found.0).0 found.1 in
           ap (is_stale_at v.nodes tick) (same_some path its.0 (sym found.2 ∙ its.1)) ∙ its.2
 
-      from : (their : TheirPaths ids) (path : Path) → is_stale_at v.nodes tick path ≡ true → has_path their.paths path ≡ true
+      from : (their : TheirPaths s linked v shown ids) (path : Path) → is_stale_at v.nodes tick path ≡ true → has_path their.paths path ≡ true
       from their path e = by (get v.nodes path) refl
         where
           by : (o : Option Node) → get v.nodes path ≡ o → has_path their.paths path ≡ true

@@ -1,6 +1,7 @@
 -- A live row's node is changed, but for its owner.
 use Rattle.std.proofs.Common.{◌≡◌, ◌≢◌, ◌⊎◌, inl, inr, ℕ, false, true, cond, Option, Some, None, refl, sym, ap, ◌∙◌}
 use Rattle.std.specs.Option.{option_map, option_map_or, option_and_then}
+use Rattle.std.specs.FinMap as finite
 use Rattle.std.specs.FinMap.{get, insert, same_map}
 use Rattle.zslots.specs.declared.id.Id.{Id}
 use Rattle.zslots.specs.SlotsView.{Items}
@@ -18,6 +19,7 @@ use Rattle.znodes.specs.support.OwnerLists.{OwnerLists, somebody}
 use Rattle.znodes.specs.support.Rows.{Key, KeepsKey, IsLinked, above, parent_key, owner_key, taken_row, node_at, nodes_of, places_of, held_of, children_at, children_of, owned_by, sibling_links, fellow_links}
 use Rattle.znodes.specs.support.Linking.{with_node_at}
 use Rattle.znodes.proofs.Faces.{by-part, part-there, at-here, at-elsewhere, at-kept}
+use Rattle.znodes.proofs.Few.{parts-many}
 use Rattle.znodes.proofs.Heads.{list-kept}
 use Rattle.znodes.proofs.Views.{get-nodes, get-places, get-held, through, insert-is}
 use Rattle.znodes.proofs.Linked.{only-path, node-shown}
@@ -25,6 +27,10 @@ use Rattle.znodes.proofs.Linked.{only-path, node-shown}
 -- a row that is there, written
 pub row-written : (m : Items Row) (id : Id) (f : Node → Node) (r : Row) → get m id ≡ Some r → insert m id (record r { node = f r.node }) ≡ with_node_at m id f
 row-written m id f r there = sym (ap (λ o. option_map_or (λ (x : Row). insert m id (record x { node = f x.node })) o m) there)
+
+-- there are as many rows
+pub rows-written : (m : Items Row) (id : Id) (f : Node → Node) → finite.len (with_node_at m id f) ≡ finite.len m
+rows-written m id f = parts-many (λ (x : Row). x.path) m (with_node_at m id f) (λ q. at-kept m id (λ x. record x { node = f x.node }) (λ (x : Row). x.path) (λ _. refl) q)
 
 -- what stays of the row
 abbrev Stay : Type 0

@@ -23,7 +23,7 @@ use crate::row::Row;
 use zalloc::Memory;
 use zpath::Path;
 use zslots::Id;
-use zslots::limits::GIVEN_BOUND;
+use zslots::limits::{GIVEN_BOUND, MAX_SLOTS};
 use ztree::Node;
 
 impl Nodes {
@@ -39,7 +39,7 @@ impl Nodes {
         ensures err { OnErr result (SameButRoom self.old self.new) }
         ensures kept { OnErr result (self.old.room ≤ self.new.room) }
     {
-        if self.slots.given() >= GIVEN_BOUND {
+        if self.slots.given() >= GIVEN_BOUND || self.slots.len() >= MAX_SLOTS {
             drop(path);
             drop(node);
             return Err(Memory);
@@ -84,6 +84,7 @@ impl Nodes {
         let owner = row.node.owner;
         let term = row.node.term;
         let parent = row.parent;
+        self.counts.cut(&row.node);
         let key = self.index.remove(&row.path);
         cut_child(&mut self.slots, parent, id);
         cut_owned(&mut self.slots, &mut self.owners, owner, id);
@@ -106,6 +107,7 @@ impl Nodes {
         };
         let owner = row.node.owner;
         let term = row.node.term;
+        self.counts.put(&row.node);
         // No list has all rows, so each can grow.
         self.slots.keeps_countable();
         put_child(&mut self.slots, Some(parent), id);

@@ -1,12 +1,12 @@
 //! The index from paths to Ids.
 //!
 //! # Why
-//! A `HashMap` from path to Id: a `BTreeMap` would compare a dozen paths at each lookup among 4,096
-//! nodes. A hash map also knows how many entries fit, so a removed entry comes back without
-//! allocating. Row and index share one path.
+//! A `HashMap` from path to Id: a `BTreeMap` would compare a dozen paths or more at each lookup. A
+//! hash map also knows how many entries fit, so a removed entry comes back without allocating. Row
+//! and index share one path.
 //!
 //! The hash has no random seed, so a program runs the same twice. A client that chooses names can
-//! make them collide; a lookup then takes at most 4,096 comparisons.
+//! make them collide; a lookup then compares at most as many paths as there are nodes.
 
 ghost use Rattle.std.specs.Prelude.{◌≡◌, ◌+◌, ◌<◌, ◌≤◌, nat_eq, is_some, IfOk, IfSome, OnOk, IsOk};
 ghost use Rattle.std.specs.Cmp.Lexicographic.{pointwise};

@@ -12,12 +12,14 @@
 
 mod changing;
 mod children;
+mod counts;
 mod index;
 mod linking;
 mod nodes;
 mod owners;
 mod owning;
 mod parts;
+mod paths;
 mod reading;
 mod row;
 mod stale;

@@ -3,6 +3,7 @@
 ghost use Rattle.std.specs.Prelude.{◌≡◌, ◌≤◌, IfOk, OnOk};
 ghost use Rattle.std.specs.FinMap as finite;
 
+use crate::counts::Counts;
 use crate::index::Index;
 use crate::owners::Owners;
 use crate::row::Row;
@@ -20,6 +21,7 @@ pub struct Nodes {
     pub(crate) index: Index,
     pub(crate) owners: Owners,
     pub(crate) timed: List<2>,
+    pub(crate) counts: Counts,
     pub(crate) alloc: Global,
 }
 
@@ -35,7 +37,7 @@ impl Model for Nodes {
 
     ghost view = { view_of };
 
-    ghost invariant = { λ s. IsThreaded s.slots.items s.index.ids s.owners s.timed };
+    ghost invariant = { λ s. IsThreaded s.slots.items s.index.ids s.owners s.timed s.counts };
 }
 
 impl Nodes {
@@ -49,6 +51,8 @@ impl Nodes {
         requires stays { root.term ≡ Unlimited }
         ensures { IfOk result (IsOpening root) }
     {
+        let mut counts = Counts::new();
+        counts.put(&root);
         let mut index = Index::new(alloc);
         index.reserve(1)?;
         let mut slots = Slots::new(alloc);
@@ -68,6 +72,7 @@ impl Nodes {
             index,
             owners: Owners::new(alloc),
             timed: List::new(),
+            counts,
             alloc,
         })
     }
@@ -116,6 +121,7 @@ impl Nodes {
             index,
             owners,
             timed: self.timed,
+            counts: self.counts,
             alloc: self.alloc,
         })
     }

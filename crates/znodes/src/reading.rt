@@ -1,12 +1,14 @@
 //! Reading the nodes.
 
-ghost use Rattle.std.specs.Prelude.{◌≡◌, ◌≢◌, ◌<◌, [], Some, is_some, IfOk, IfSome, IfNone, OnSome, IsSome};
-ghost use Rattle.std.specs.FinMap.{keys};
+ghost use Rattle.std.specs.Prelude.{◌≡◌, ◌≢◌, ◌<◌, [], None, Some, is_some, IfOk, IfSome, IfNone, OnSome, IsSome};
+ghost use Rattle.std.specs.FinMap.{get, keys};
 ghost use Rattle.std.specs.Option.{option_copied};
+ghost use Rattle.ztree.specs.Counts.{owned_count, data_count};
 ghost use Rattle.ztree.specs.Tree.{has_node, ephemerals};
 ghost use Rattle.znodes.specs.NodesView.{path_of, node_of, AtPath, AtNode, IsUnder, child_count_of};
 
 use crate::nodes::Nodes;
+use crate::paths::owned_paths;
 use crate::row::Row;
 use zalloc::Memory;
 use zpath::Path;
@@ -57,6 +59,31 @@ impl Nodes {
     {
         let row = Row::live(&self.slots, id)?;
         Some(row.children.len())
+    }
+
+    /// Returns the paths of the nodes that a session owns, in their order; or `Memory`. One that
+    /// may not own nodes owns none. The cost depends on the number of these nodes.
+    pub fn owned(&self, owner: u64) -> Result<Vec<Path>, Memory>
+        ensures owned { IfOk result (λ paths. 0 < owner → IsSome (get self.now.owners owner)
+            → paths.items ≡ ephemerals self.now.nodes owner) }
+        ensures gone { IfOk result (λ paths.
+            get self.now.owners owner ≡ None → paths.items ≡ []) }
+    {
+        owned_paths(self.alloc, &self.slots, &self.owners, owner)
+    }
+
+    /// Returns the number of nodes that sessions own.
+    pub fn owned_count(&self) -> usize
+        ensures { result ≡ owned_count self.now.nodes }
+    {
+        self.counts.owned
+    }
+
+    /// Returns the bytes of the data of all nodes.
+    pub fn data_count(&self) -> u64
+        ensures { result ≡ data_count self.now.nodes }
+    {
+        self.counts.bytes
     }
 
     /// Returns the Id of some node that the session owns, or `None` if it owns none.

@@ -33,7 +33,7 @@ pub(crate) struct Row {
 }
 
 // Rows are most of the memory of a machine with many nodes.
-const _: () = prove!(size_of::<Row>() <= 300);
+const _: () = prove!(size_of::<Row>() <= 308);
 
 impl Row {
     ghost use Rattle.std.specs.Option.{option_copied};

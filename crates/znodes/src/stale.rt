@@ -3,14 +3,17 @@
 ghost use Rattle.std.specs.Prelude.{◌≡◌, IfOk, OnOk};
 ghost use Rattle.zslots.specs.Ids.{Ids};
 ghost use Rattle.zslots.specs.Lists.{IsList};
+ghost use Rattle.ztree.specs.Stale.{stale_nodes};
 ghost use Rattle.znodes.specs.NodesView.{AreStale};
 ghost use Rattle.znodes.specs.support.Rows.{timed_links};
 ghost use Rattle.znodes.specs.support.Reading.{is_stale_row, AreStaleOf, AddsStale};
 
 use crate::nodes::Nodes;
+use crate::paths::sorted_paths;
 use crate::row::Row;
 use std::alloc::Global;
 use zalloc::Memory;
+use zpath::Path;
 use zslots::{Id, List, Slots};
 
 impl Nodes {
@@ -21,6 +24,15 @@ impl Nodes {
             AreStale self.now.nodes self.now.places tick ids.items) }
     {
         stale_in(self.alloc, &self.slots, self.timed, tick)
+    }
+
+    /// Returns the paths of the nodes that a tick removes, in their order; or `Memory`. The cost
+    /// depends on the number of containers and nodes with a TTL.
+    pub fn stale_paths(&self, tick: u64) -> Result<Vec<Path>, Memory>
+        ensures { IfOk result (λ paths. paths.items ≡ stale_nodes self.now.nodes tick) }
+    {
+        let ids = self.stale(tick)?;
+        sorted_paths(self.alloc, &self.slots, &ids)
     }
 }
 

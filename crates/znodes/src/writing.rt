@@ -1,6 +1,8 @@
 //! Writing the fields of a node.
 
 ghost use Rattle.std.specs.Prelude.{◌≡◌, IsSome};
+ghost use Rattle.ztree.specs.Tree.{with_acl};
+ghost use Rattle.ztree.specs.Room.{HasRoomForAcl};
 ghost use Rattle.znodes.specs.NodesView.{path_of, AtNode, Writes, marks_of, content_of, node_with_marks, node_with_content};
 
 use crate::nodes::Nodes;
@@ -29,6 +31,18 @@ impl Nodes {
         before
     }
 
+    /// Counts a write of its access control list.
+    pub fn raise_acl(&mut self, id: Id)
+        requires live { IsSome (path_of self.old id) }
+        requires counters { AtNode self.old id HasRoomForAcl }
+        ensures written { Writes self.old self.new id with_acl }
+    {
+        let Some(row) = self.slots.get_mut(id) else {
+            unreachable!()
+        };
+        row.node.aversion += 1;
+    }
+
     /// Writes the fields of its data, and returns the old ones.
     pub fn put_content(&mut self, id: Id, content: Content) -> Content
         requires live { IsSome (path_of self.old id) }
@@ -38,6 +52,7 @@ impl Nodes {
         let Some(row) = self.slots.get_mut(id) else {
             unreachable!()
         };
+        self.counts.change(&row.node.bytes, &content.bytes);
         let before = Content {
             bytes: mem::replace(&mut row.node.bytes, content.bytes),
             mzxid: row.node.mzxid,

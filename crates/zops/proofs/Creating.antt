@@ -3,7 +3,7 @@ use Rattle.std.proofs.Common.{◌≡◌, ℕ, Bool, true, false, List, Some, Non
 use Rattle.std.specs.Prelude.{nat_le}
 use Rattle.std.specs.FinMap as finite
 use Rattle.zpath.specs.First.{first_that_holds}
-use Rattle.ztree.specs.Tree.{Tree, Nodes, Path, parent_of, has_node, with_node}
+use Rattle.ztree.specs.Tree.{Tree, Path, parent_of, has_node, with_node}
 use Rattle.zcalls.specs.declared.call.Create.{Create}
 use Rattle.zcalls.specs.declared.refusal.Refusal.{Refusal}
 use Rattle.zcalls.specs.declared.refusal.Refusal.TheVariants.{NodeExists, Full}
@@ -29,26 +29,26 @@ created-done t client create e =
     ap (λ o. unless_refused o (with_node t made create.bytes (owner_of create.kind.lifetime) (term_of create.kind.lifetime) create.kind.is_sequential, Created made)) e
 
 -- the tests of the position of a made path
-abbrev place_refusals : Nodes → Create → List (Bool × Refusal)
-place_refusals nodes create =
-    (has_node nodes (made_path nodes create.kind create.path), NodeExists) ∷ (nat_le 4096 (finite.len nodes), Full) ∷ []
+abbrev place_refusals : Tree → Create → List (Bool × Refusal)
+place_refusals t create =
+    (has_node t.nodes (made_path t.nodes create.kind create.path), NodeExists) ∷ (nat_le t.limits.nodes (finite.len t.nodes), Full) ∷ []
 
 -- a create whose owner is there, below the root, beneath a node that no session owns
 module _ (t : Tree) (client : ℕ) (create : Create) (owned : has_no_owner t.sessions client create.kind.lifetime ≡ false) (root : is_root create.path ≡ false) (there : has_node t.nodes (parent_of create.path) ≡ true) (unowned : node_has is_owned t.nodes (parent_of create.path) ≡ false) where
   pub unnamed : (refusal : Refusal) → first_that_holds (name_refusals t create.kind create.path) ≡ Some refusal → first_that_holds (create_refusals t client create) ≡ Some refusal
-  unnamed refusal e = rw (owned, root, there, unowned) (first_of_both (name_refusals t create.kind create.path) (place_refusals t.nodes create) refusal e)
+  unnamed refusal e = rw (owned, root, there, unowned) (first_of_both (name_refusals t create.kind create.path) (place_refusals t create) refusal e)
 
-  named : first_that_holds (name_refusals t create.kind create.path) ≡ None → first_that_holds (create_refusals t client create) ≡ first_that_holds (place_refusals t.nodes create)
-  named e = rw (owned, root, there, unowned) (second_of_both (name_refusals t create.kind create.path) (place_refusals t.nodes create) e)
+  named : first_that_holds (name_refusals t create.kind create.path) ≡ None → first_that_holds (create_refusals t client create) ≡ first_that_holds (place_refusals t create)
+  named e = rw (owned, root, there, unowned) (second_of_both (name_refusals t create.kind create.path) (place_refusals t create) e)
 
   module _ (made : Path) (is_made : made ≡ made_path t.nodes create.kind create.path) (allowed : first_that_holds (name_refusals t create.kind create.path) ≡ None) where
     pub taken : has_node t.nodes made ≡ true → first_that_holds (create_refusals t client create) ≡ Some NodeExists
     taken here = named allowed ∙ rw (sym (ap (has_node t.nodes) is_made) ∙ here) refl
 
-    pub full : has_node t.nodes made ≡ false → nat_le 4096 (finite.len t.nodes) ≡ true → first_that_holds (create_refusals t client create) ≡ Some Full
+    pub full : has_node t.nodes made ≡ false → nat_le t.limits.nodes (finite.len t.nodes) ≡ true → first_that_holds (create_refusals t client create) ≡ Some Full
     full free many = named allowed ∙ rw (sym (ap (has_node t.nodes) is_made) ∙ free, many) refl
 
-    pub all_clear : has_node t.nodes made ≡ false → nat_le 4096 (finite.len t.nodes) ≡ false → first_that_holds (create_refusals t client create) ≡ None
+    pub all_clear : has_node t.nodes made ≡ false → nat_le t.limits.nodes (finite.len t.nodes) ≡ false → first_that_holds (create_refusals t client create) ≡ None
     all_clear free few = named allowed ∙ rw (sym (ap (has_node t.nodes) is_made) ∙ free, few) refl
 
 -- where a create finds no name, it is refused for that

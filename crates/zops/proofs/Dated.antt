@@ -2,7 +2,8 @@
 use Rattle.std.proofs.Common.{ℕ, Bool, true, false, if◌then◌else◌, Option, sym, subst, arith}
 use Rattle.std.specs.Prelude.{nat_lt}
 use Rattle.std.specs.FinMap.{get}
-use Rattle.ztree.specs.Tree.{Tree, opening_tree}
+use Rattle.ztree.specs.declared.limits.TreeLimits.{TreeLimits}
+use Rattle.ztree.specs.Tree.{Tree, opening_within}
 use Rattle.zcalls.specs.declared.call.Entry.{Entry}
 use Rattle.zcalls.specs.declared.call.Update.{Update}
 use Rattle.zcalls.specs.declared.reply.Reply.{Reply}
@@ -37,8 +38,8 @@ settled t is path n e =
       mtime = old.mtime;
     }
 
-pub opening-dated : AllDated opening_tree
-opening-dated = dated opening_tree opening-settled
+pub opening-dated : (limits : TreeLimits) → AllDated (opening_within limits)
+opening-dated limits = dated (opening_within limits) (opening-settled limits)
 
 step-dated : (t : Tree) (client : ℕ) (update : Update) → AllDated t → AllDated (step t client update).0
 step-dated t client update is = dated (step t client update).0 (step-settled t client update (settled t is))

@@ -1,7 +1,9 @@
+pub mod Acls
 pub mod Changing
 pub mod Creating
 pub mod Dated
 pub mod KeptMaps
+pub mod Limited
 pub mod Marks
 pub mod OfUpdate
 pub mod Ticking

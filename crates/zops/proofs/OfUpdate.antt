@@ -4,10 +4,10 @@ use Rattle.std.specs.Prelude.{nat_le}
 use Rattle.std.specs.FinMap as finite
 use Rattle.ztree.specs.Tree.{Tree, with_next_zxid}
 use Rattle.ztree.specs.Sessions.{with_session, with_renewed_session, without_session}
-use Rattle.zcalls.specs.declared.limits.TheConstants.{MAX_PARTS}
+use Rattle.zcalls.specs.declared.limits.TheConstants.{MOST_PARTS}
 use Rattle.zcalls.specs.declared.call.Part.{Part}
 use Rattle.zcalls.specs.declared.call.Update.{Update}
-use Rattle.zcalls.specs.declared.call.Update.TheVariants.{Create, Delete, SetData, Multi, Open, Ping, Close, Tick}
+use Rattle.zcalls.specs.declared.call.Update.TheVariants.{Create, Delete, SetData, SetAcl, Multi, Open, Ping, Close, Tick}
 use Rattle.zcalls.specs.declared.change.ChangeReply.{ChangeReply}
 use Rattle.zcalls.specs.declared.change.ChangeReply.TheVariants as change
 use Rattle.zcalls.specs.declared.refusal.Refusal.{Refusal}
@@ -15,7 +15,7 @@ use Rattle.zcalls.specs.declared.refusal.Refusal.TheVariants.{SessionGone, TooMa
 use Rattle.zcalls.specs.declared.reply.PartReply.{PartReply}
 use Rattle.zcalls.specs.declared.reply.Reply.{Reply}
 use Rattle.zcalls.specs.declared.reply.Reply.TheVariants as reply
-use Rattle.zcalls.specs.Part.{create_step, delete_step, set_step, part_step, is_gone}
+use Rattle.zcalls.specs.Part.{create_step, delete_step, set_step, acl_step, part_step, is_gone}
 use Rattle.zcalls.specs.Multi.{Run, behind, and_then, run}
 use Rattle.zcalls.specs.Step.{step, update_result, change_result, multi_result, granted_timeout, is_exhausted}
 use Rattle.zops.specs.Restored.{IsOfUpdate}
@@ -45,7 +45,7 @@ changed t (Ok (u, change.Created path)) = tt
 changed t (Ok (u, change.Deleted)) = tt
 changed t (Ok (u, change.Set stat)) = tt
 
-together : (t : Tree) (did : Run) (most : ℕ) → HasFew most did → most ≤ MAX_PARTS → IsOfUpdate (multi_result t did).1
+together : (t : Tree) (did : Run) (most : ℕ) → HasFew most did → most ≤ MOST_PARTS → IsOfUpdate (multi_result t did).1
 together t (Err (number, refusal)) most few within = tt
 together t (Ok (u, replies)) most few within = omega (arith, few, within)
 
@@ -58,10 +58,12 @@ updated : (t : Tree) (client : ℕ) (update : Update) → HasFewParts update →
 updated t client (Create create) few = changed t (create_step t client create)
 updated t client (Delete delete) few = changed t (delete_step t delete)
 updated t client (SetData set) few = changed t (set_step t set)
+updated t client (SetAcl set) few = changed t (acl_step t set)
 updated t client (Multi parts) few = together t (run t client parts) (length parts) (run-few parts t client) few
 updated t client (Open ticks) few =
-    either (nat_le 1024 (finite.len t.sessions)) (t, reply.Refused TooManySessions)
-    (with_next_zxid (with_session t client (granted_timeout ticks)), reply.Opened (t.zxid + 1) (granted_timeout ticks)) tt tt
+    let timeout = granted_timeout t.limits.timeout ticks in
+    either (nat_le t.limits.sessions (finite.len t.sessions)) (t, reply.Refused TooManySessions)
+    (with_next_zxid (with_session t client timeout), reply.Opened (t.zxid + 1) timeout) tt tt
 updated t client (Ping session) few =
     either (is_gone t.sessions client session) (t, reply.Refused SessionGone) (with_renewed_session t session, reply.Pinged) tt tt
 updated t client (Close session) few =

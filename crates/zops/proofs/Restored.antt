@@ -5,6 +5,7 @@ use Rattle.std.specs.Ordering.{nat_cmp}
 use Rattle.std.specs.FinMap as finite
 use Rattle.std.specs.FinMap.{get-empty, len-empty, len-insert}
 use Rattle.zpath.specs.Grammar.{path_cmp}
+use Rattle.ztree.specs.declared.limits.TreeLimits.{TreeLimits}
 use Rattle.ztree.specs.declared.node.Node.{Node}
 use Rattle.ztree.specs.declared.session.Session.{Session}
 use Rattle.ztree.specs.Tree.{Tree, Path}
@@ -25,11 +26,11 @@ no_nodes : (P : Node → Type 0) → AllNodes P finite.empty
 no_nodes P q n e = absurd (none_some n (sym (get-empty path_cmp q) ∙ e))
 
 -- the root alone
-pub restoring_root : (store : StoreView) (root : Node) (time zxid applied : ℕ) →
-    CanBegin root time zxid applied → store.tree ≡ rooted_tree root time zxid → store.given ≤ 1 →
-    IsRestoring store applied
-restoring_root store root time zxid applied can is given =
-    let bounded : IsBounded (rooted_tree root time zxid) = record {
+pub restoring_root : (store : StoreView) (root : Node) (time zxid applied : ℕ) (limits : TreeLimits) →
+    CanBegin root time zxid applied limits → store.tree ≡ rooted_tree root time zxid limits →
+    store.given ≤ 1 → IsRestoring store applied
+restoring_root store root time zxid applied limits can is given =
+    let bounded : IsBounded (rooted_tree root time zxid limits) = record {
       zxid = can.zxid_few;
       time = can.time_few;
       counters = all_insert (IsWithin (MAX_RAISES * zxid)) finite.empty [] root
@@ -81,14 +82,14 @@ restoring_node old new applied path n (Err fault) before within dated tree given
 -- a session put, or refused
 pub restoring_session : (old new : StoreView) (applied id : ℕ) (s : Session)
     (result : Result (Unit {0}) RestoreFault) → IsRestoring old applied →
-    IsGranted old.tree.zxid id s → OnOk result (new.tree ≡ with_session_row old.tree id s) →
+    IsGranted old.tree.limits.timeout old.tree.zxid id s → OnOk result (new.tree ≡ with_session_row old.tree id s) →
     OnOk result (new.given ≡ old.given) → OnErr result (new ≡ old) → IsRestoring new applied
 restoring_session old new applied id s (Ok u) before granted tree given err =
     let bounded : IsBounded (with_session_row old.tree id s) = record {
       zxid = before.bounded.zxid;
       time = before.bounded.time;
       counters = before.bounded.counters;
-      sessions = put-granted old.tree.zxid old.tree.sessions id s before.bounded.sessions granted;
+      sessions = put-granted old.tree.limits.timeout old.tree.zxid old.tree.sessions id s before.bounded.sessions granted;
     } in
     let same = ap (λ (t : Tree). finite.len t.nodes) tree in
     let few = before.given_few in
@@ -102,7 +103,12 @@ restoring_session old new applied id s (Err fault) before granted tree given err
     subst (λ (v : StoreView). IsRestoring v applied) (sym err) before
 
 -- a session whose numbers passed the tests
-pub granted : (zxid id : ℕ) (s : Session) (number z first : ℕ) → number ≡ id → z ≡ first → first ≡ zxid →
-    number ≤ z → 2 ≤ s.timeout → s.timeout ≤ 20 → IsGranted zxid id s
-granted zxid id s number z first is z_is first_is early least most =
-    record { before = omega (arith, is, z_is, first_is, early); least = least; most = most }
+pub granted : (t : Tree) (id : ℕ) (s : Session) (number z first : ℕ) (limits : TreeLimits) →
+    number ≡ id → z ≡ first → first ≡ t.zxid → limits ≡ t.limits →
+    number ≤ z → 2 ≤ s.timeout → s.timeout ≤ limits.timeout → IsGranted t.limits.timeout t.zxid id s
+granted t id s number z first limits is z_is first_is limits_is early least most =
+    record {
+      before = omega (arith, is, z_is, first_is, early);
+      least = least;
+      most = subst (λ (l : TreeLimits). s.timeout ≤ l.timeout) limits_is most;
+    }

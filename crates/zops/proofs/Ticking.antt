@@ -16,8 +16,10 @@ use Rattle.zstore.specs.StoreView.{StoreView, Ids, AreAt, AreStale}
 use Rattle.zstore.proofs.ids.Removing.{count_paths, still_named, all_alike}
 use Rattle.zstore.proofs.order.All.{in_any_order}
 use Rattle.zcalls.proofs.Ends.{RoomForEnds, few-leaves, room_before, all_ended-room}
+use Rattle.zcalls.specs.declared.limits.TheConstants.{MAX_RAISES}
 use Rattle.zcalls.specs.Bounds.{IsBounded}
 use Rattle.zcalls.specs.Step.{due_next, stale_next}
+use Rattle.zcalls.proofs.Timed.{few_nodes}
 use Rattle.ztree.proofs.LawfulEnd.{due_above}
 use Rattle.zops.specs.support.Ready.{KeepsLeft, CanRemove}
 
@@ -91,8 +93,8 @@ ticking h mid now due ids lawful at due_now stale_now ended still =
       can = can_remove h mid (t.time + 1) ids (due_next t) lawful above stale tree still;
       count = removed-count h mid (t.time + 1) ids (due_next t) lawful above stale tree still;
       room = λ bounded small.
-          removed-room h mid (t.time + 1) ids (due_next t) lawful above stale tree still (4096 * t.zxid + 4096) (omega (arith, small))
-          (all_ended-room (4096 * t.zxid + 4096) (due_next t) t (room_before (4096 * t.zxid) t.nodes bounded.counters lawful.few_nodes));
+          removed-room h mid (t.time + 1) ids (due_next t) lawful above stale tree still (MAX_RAISES * t.zxid + MAX_RAISES) (omega (arith, small))
+          (all_ended-room (MAX_RAISES * t.zxid + MAX_RAISES) (due_next t) t (room_before (MAX_RAISES * t.zxid) t.nodes bounded.counters (few_nodes t lawful)));
       gone = λ left removed.
           removed stale.paths (can_remove h mid (t.time + 1) ids (due_next t) lawful above stale tree still).named
           ∙ removed-tree h mid (t.time + 1) ids (due_next t) lawful above stale tree still;

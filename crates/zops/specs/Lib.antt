@@ -1,3 +1,4 @@
+pub mod LimitsLaws
 pub mod Machine
 pub mod Restored
 pub mod RestoredLaws

@@ -1,6 +1,8 @@
 -- The state machine: what a contract sees of it, and what an entry does to it.
 use Rattle.std.specs.Prelude.{ℕ, ◌+◌, Bool, Option}
-use Rattle.ztree.specs.Tree.{Tree, opening_tree}
+use Rattle.ztree.specs.declared.limits.TreeLimits.{TreeLimits}
+use Rattle.ztree.specs.Limits.{profile}
+use Rattle.ztree.specs.Tree.{Tree, opening_within}
 use Rattle.zcalls.specs.declared.call.Entry.{Entry}
 use Rattle.zcalls.specs.declared.reply.Reply.{Reply}
 use Rattle.zcalls.specs.Cached.{CachedState, nothing_cached, entry_step}
@@ -11,9 +13,13 @@ pub record MachineState : Type 0 where
   pub service : CachedState Tree
   pub applied : ℕ
 
--- the initial state: the initial tree, no cached reply, and no entry applied
+-- the initial state within these limits: the initial tree, no cached reply, and no entry applied
+abbrev pub machine_within : TreeLimits → MachineState
+machine_within limits = record { service = nothing_cached (opening_within limits); applied = 0 }
+
+-- the initial state within the limits of this project's profile
 abbrev pub opening_machine : MachineState
-opening_machine = record { service = nothing_cached opening_tree; applied = 0 }
+opening_machine = machine_within profile
 
 -- an entry applied by the entry step over the plain tree; it is counted whether it acts or not
 unfoldable pub entry_result : MachineState → Entry → MachineState × Option Reply

@@ -4,22 +4,28 @@
 use Rattle.std.specs.Prelude.{ℕ, ◌*◌, ◌<◌, ◌≤◌, length}
 use Rattle.std.specs.FinMap.{empty, insert}
 use Rattle.ztree.specs.declared.limits.TheConstants.{ZXID_BOUND, TICK_BOUND}
+use Rattle.ztree.specs.declared.limits.TreeLimits.{TreeLimits}
 use Rattle.ztree.specs.declared.node.Node.{Node}
 use Rattle.ztree.specs.declared.session.Session.{Session}
+use Rattle.ztree.specs.Limits.{AreLimits}
 use Rattle.ztree.specs.Tree.{Tree, Path}
 use Rattle.ztree.specs.Lawful.{AllNodes}
 use Rattle.zstore.specs.Restored.{rooted_tree, CanBeRoot, CanPut, CanPutSession}
-use Rattle.zcalls.specs.declared.limits.TheConstants.{MAX_PARTS, MAX_RAISES}
+use Rattle.zcalls.specs.declared.limits.TheConstants.{MOST_PARTS, MAX_RAISES}
 use Rattle.zcalls.specs.declared.reply.Reply.{Reply}
 use Rattle.zcalls.specs.declared.reply.Reply.TheVariants as reported
 use Rattle.zcalls.specs.Bounds.{IsWithin, IsGranted}
 use Rattle.zops.specs.declared.limits.TheConstants.{MAX_APPLIED}
 use Rattle.zops.specs.Machine.{MachineState}
 
--- the root alone, at this tick, after this change and that many entries; no reply is cached
-abbrev pub rooted_machine : Node → ℕ → ℕ → ℕ → MachineState
-rooted_machine root time zxid applied =
-    record { service = record { plain = rooted_tree root time zxid; kept = empty }; applied = applied }
+-- the root alone, at this tick, after this change and that many entries, within these limits; no
+-- reply is cached
+abbrev pub rooted_machine : Node → ℕ → ℕ → ℕ → TreeLimits → MachineState
+rooted_machine root time zxid applied limits =
+    record {
+      service = record { plain = rooted_tree root time zxid limits; kept = empty };
+      applied = applied;
+    }
 
 -- the state with another tree
 abbrev pub with_plain : MachineState → Tree → MachineState
@@ -34,12 +40,12 @@ with_reply s client number reply =
       };
     }
 
--- The reply is one to an update: only these are cached. A multi has at most 64 parts.
+-- The reply is one to an update: only these are cached. A multi has at most 1,024 parts.
 abbrev pub IsOfUpdate : Reply → Type 0
 IsOfUpdate (reported.Data bytes stat) = ⊥
 IsOfUpdate (reported.Exists stat) = ⊥
 IsOfUpdate (reported.Children names) = ⊥
-IsOfUpdate (reported.Multi replies) = length replies ≤ MAX_PARTS
+IsOfUpdate (reported.Multi replies) = length replies ≤ MOST_PARTS
 IsOfUpdate other = Unit {0}
 
 -- no zxid of the node is above this one, and no tick of it is above this one
@@ -54,19 +60,20 @@ pub record IsDated (zxid time : ℕ) (n : Node) : Type 0 where
 abbrev pub AllDated : Tree → Type 0
 AllDated t = AllNodes (IsDated t.zxid t.time) t.nodes
 
--- a machine can begin with this root and these numbers
-pub record CanBegin (root : Node) (time zxid applied : ℕ) : Type 0 where
+-- a machine can begin with this root, these numbers and these limits
+pub record CanBegin (root : Node) (time zxid applied : ℕ) (limits : TreeLimits) : Type 0 where
   pub can : CanBeRoot root
   pub within : IsWithin (MAX_RAISES * zxid) root
   pub dated : IsDated zxid time root
   pub zxid_few : zxid < ZXID_BOUND
   pub time_few : time < TICK_BOUND
   pub applied_few : applied ≤ MAX_APPLIED
+  pub allowed : AreLimits limits
 
 -- the session can be put, and its numbers are bounded
 pub record CanPutGranted (t : Tree) (id : ℕ) (s : Session) : Type 0 where
   pub can : CanPutSession t id s
-  pub granted : IsGranted t.zxid id s
+  pub granted : IsGranted t.limits.timeout t.zxid id s
 
 -- the node can be put, its numbers are bounded, and its zxids and ticks are at most the tree's
 pub record CanPutNode (t : Tree) (path : Path) (n : Node) : Type 0 where

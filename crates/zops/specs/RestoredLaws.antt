@@ -1,6 +1,7 @@
 -- Laws of the rows of a machine's tree. Each is the contract of a function in `src/laws.rt`.
 use Rattle.std.specs.Prelude.{◌≡◌, ℕ, ◌≤◌, List, [], ◌∷◌, Some}
 use Rattle.std.specs.FinMap.{get, entries}
+use Rattle.ztree.specs.declared.limits.TreeLimits.{TreeLimits}
 use Rattle.ztree.specs.declared.node.Node.{Node}
 use Rattle.ztree.specs.declared.session.Session.{Session}
 use Rattle.ztree.specs.Tree.{Tree, Path}
@@ -35,12 +36,12 @@ pub record IsRestored (t : Tree) (applied : ℕ) : Type 0 where
   pub root : Node
   pub rows : List (Path × Node)
   pub listed : entries t.nodes ≡ ([], root) ∷ rows
-  pub can_begin : CanBegin root t.time t.zxid applied
-  pub can_sessions : CanPutAllGranted (rooted_tree root t.time t.zxid) (entries t.sessions)
+  pub can_begin : CanBegin root t.time t.zxid applied t.limits
+  pub can_sessions : CanPutAllGranted (rooted_tree root t.time t.zxid t.limits) (entries t.sessions)
   pub can_nodes : CanPutAllNodes
-      (with_session_rows (rooted_tree root t.time t.zxid) (entries t.sessions)) rows
+      (with_session_rows (rooted_tree root t.time t.zxid t.limits) (entries t.sessions)) rows
   pub whole : with_rows
-      (with_session_rows (rooted_tree root t.time t.zxid) (entries t.sessions)) rows ≡ t
+      (with_session_rows (rooted_tree root t.time t.zxid t.limits) (entries t.sessions)) rows ≡ t
 
 -- a settled tree's own rows restore it
 abbrev pub RowsMakeTheirMachine : Type 0
@@ -50,9 +51,10 @@ RowsMakeTheirMachine =
 -- a root and numbers that no machine can begin with are of no settled tree
 abbrev pub RefusedRootsAreNowhere : Type 0
 RefusedRootsAreNowhere =
-    (root : Node) (time zxid applied : ℕ) → (CanBegin root time zxid applied → ⊥) →
+    (root : Node) (time zxid applied : ℕ) (limits : TreeLimits) →
+    (CanBegin root time zxid applied limits → ⊥) →
     applied ≤ MAX_APPLIED → (whole : Tree) → IsSettled whole → whole.time ≡ time →
-    whole.zxid ≡ zxid → get whole.nodes [] ≡ Some root → ⊥
+    whole.zxid ≡ zxid → whole.limits ≡ limits → get whole.nodes [] ≡ Some root → ⊥
 
 -- a session that can't be put is the next one of no settled tree
 abbrev pub RefusedSessionsAreNowhere : Type 0

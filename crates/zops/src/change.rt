@@ -4,22 +4,21 @@ ghost use Rattle.std.specs.Prelude.{◌≡◌, ◌≢◌, ◌<◌, [], Some, Non
 ghost use Rattle.zpath.specs.Numbered.{is_over};
 ghost use Rattle.ztree.specs.Tree.{Path, parent_of};
 ghost use Rattle.zstore.specs.StoreView.{path_of, AtPath};
-ghost use Rattle.zcalls.specs.Part.{create_step, delete_step, set_step};
-ghost use Rattle.zcalls.specs.Part.{has_no_owner, is_owned, has_other_version, made_path};
+ghost use Rattle.zcalls.specs.Part.{create_step, delete_step, set_step, acl_step};
+ghost use Rattle.zcalls.specs.Part.{has_no_owner, is_owned, has_other_version, has_other_acl, made_path};
 ghost use Rattle.zops.specs.support.Ready.{IsReadyForPart};
 ghost use Rattle.zops.specs.support.Stops.{IsDone, IsStop, IsFirst};
 ghost use Rattle.zops.specs.support.Names.{name_refusal};
-ghost use Rattle.zops.specs.support.Steps.{ReportsWhether, is_parent};
+ghost use Rattle.zops.specs.support.Steps.{Gives, ReportsWhether, is_parent};
 
 use crate::session_calls::is_gone;
 use crate::stop::Stop;
 use std::alloc::Global;
 use zcalls::limits::MAX_COUNTER;
-use zcalls::{ChangeReply, Create, Delete, Expected, Kind, Lifetime, Refusal, SetData};
+use zcalls::{ChangeReply, Create, Delete, Expected, Kind, Lifetime, Refusal, SetAcl, SetData};
 use zpath::{Path, PathFault};
 use zstore::{Id, Store};
 use ztree::ClientId;
-use ztree::limits::MAX_NODES;
 
 // Returns whether a node would belong to a session that is gone for this client.
 fn has_no_owner(store: &Store, client: ClientId, lifetime: Lifetime) -> bool
@@ -47,6 +46,16 @@ pub(crate) fn has_other_version(store: &Store, id: Id, expected: Expected) -> bo
 {
     match (store.node(id), expected) {
         (Some(node), Expected::Exactly(version)) => node.version != version,
+        _ => false,
+    }
+}
+
+// Returns whether the version of the node's access control list differs from the expected one.
+fn has_other_acl(store: &Store, id: Id, expected: Expected) -> bool
+    ensures { ReportsWhether (has_other_acl expected) store.now id result }
+{
+    match (store.node(id), expected) {
+        (Some(node), Expected::Exactly(version)) => node.aversion != version,
         _ => false,
     }
 }
@@ -114,7 +123,7 @@ pub(crate) fn create(
         drop(made);
         return Err(Stop::Refused(Refusal::NodeExists));
     }
-    if store.nodes() >= MAX_NODES {
+    if store.nodes() >= store.limits().nodes {
         drop(made);
         return Err(Stop::Refused(Refusal::Full));
     }
@@ -171,6 +180,28 @@ pub(crate) fn set(store: &mut Store, set: &SetData) -> Result<ChangeReply, Stop>
         return Err(Stop::Refused(Refusal::BadVersion));
     }
     store.put_data(id, set.bytes.clone()?)?;
+    match store.stat(id) {
+        Some(stat) => Ok(ChangeReply::Set(stat)),
+        None => unreachable!(),
+    }
+}
+
+/// Counts a write of a node's access control list, and gives up the savepoint. On an error the
+/// store is unchanged.
+pub(crate) fn set_acl(store: &mut Store, set: &SetAcl) -> Result<ChangeReply, Stop>
+    requires ready { IsReadyForPart store.old }
+    ensures done { IfOk result (Gives (acl_step store.old.tree set.now) store.new) }
+    ensures given { store.new.given ≡ store.old.given }
+    ensures stopped { IfErr result (IsStop (acl_step store.old.tree set.now)) }
+    ensures same { OnErr result (store.new ≡ store.old) }
+{
+    let Some(id) = store.find(&set.path) else {
+        return Err(Stop::Refused(Refusal::NoNode));
+    };
+    if has_other_acl(store, id, set.version) {
+        return Err(Stop::Refused(Refusal::BadVersion));
+    }
+    store.put_acl(id);
     match store.stat(id) {
         Some(stat) => Ok(ChangeReply::Set(stat)),
         None => unreachable!(),

@@ -1,5 +1,6 @@
 //! Laws of the definitions. Each function's contract is a law; its body does nothing.
 
+ghost use Rattle.zops.specs.LimitsLaws.{CallsStayWithin};
 ghost use Rattle.zops.specs.RestoredLaws.{RowsMakeTheirMachine, RefusedRootsAreNowhere, RefusedSessionsAreNowhere, RefusedNodesAreNowhere};
 
 /// The rows of a settled tree restore it: each can be put after those before it. A tree is settled
@@ -13,4 +14,9 @@ pub fn refused_rows_are_nowhere()
     ensures root { RefusedRootsAreNowhere }
     ensures session { RefusedSessionsAreNowhere }
     ensures node { RefusedNodesAreNowhere }
+{}
+
+/// A tree that fits within other limits still fits within them after any calls.
+pub fn calls_stay_within_limits()
+    ensures { CallsStayWithin }
 {}

@@ -10,6 +10,7 @@
 mod change;
 mod kept;
 pub mod laws;
+mod limiting;
 pub mod limits;
 mod machine;
 mod part;
@@ -27,7 +28,10 @@ pub use machine::Machine;
 pub use restoring::Restoring;
 pub use zcalls::{
     Call, CallNumber, Change, ChangeReply, Check, Create, Delete, Entry, Expected, Kind, MAX_PARTS,
-    Multi, Names, Part, PartReply, Query, Refusal, Replies, Reply, SetData, SharedEntry, Update,
+    MOST_PARTS, Multi, Names, Part, PartReply, Query, Refusal, Replies, Reply, SetAcl, SetData,
+    SharedEntry, Update,
 };
-pub use zstore::RestoreFault;
-pub use ztree::{ClientId, Data, DataFault, Node, Session, SessionId, Stat, Term, Ttl, Zxid};
+pub use zstore::{LimitFault, RestoreFault};
+pub use ztree::{
+    ClientId, Data, DataFault, Node, Session, SessionId, Stat, Term, TreeLimits, Ttl, Zxid,
+};

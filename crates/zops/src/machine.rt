@@ -2,8 +2,8 @@
 //!
 //! # Why
 //! An entry is counted before it is done, since running out of memory ends the machine anyway. The
-//! Ids given out are at most 64 for each entry and 4,096 beside: a restored machine has given one
-//! out for each node.
+//! Ids given out are at most 1,024 for each entry, and one for each node that a restored machine
+//! began with.
 
 ghost use Rattle.zops.specs.declared.limits.TheConstants.{MAX_APPLIED};
 ghost use Rattle.zops.specs.support.Ready.{IsSteady, StaysBounded};
@@ -18,6 +18,7 @@ use std::marker::Model;
 use zalloc::Memory;
 use zcalls::{Entry, Query, Reply, Update};
 use zstore::Store;
+use ztree::TreeLimits;
 
 /// A state machine: the tree, the last reply to each client, and the calls on them.
 ///
@@ -50,11 +51,12 @@ impl Model for Machine {
 
 impl Machine {
     ghost use Rattle.zcalls.specs.Step.{query_reply};
-    ghost use Rattle.zops.specs.Machine.{opening_machine, entry_result};
+    ghost use Rattle.zops.specs.Machine.{opening_machine, machine_within, entry_result};
+    ghost use Rattle.ztree.specs.Limits.{AreLimits};
     ghost use Rattle.ztree.specs.Lawful.{IsLawful, HasPaths};
     ghost use Rattle.zcalls.specs.Bounds.{IsBounded};
 
-    /// Makes a machine in the initial state: the initial tree, and no cached reply.
+    /// Makes a machine in the initial state of the profile: the initial tree, and no cached reply.
     pub fn new(alloc: Global) -> Result<Machine, Memory>
         ensures opening { IfOk result (λ m. m
             ≡ record { state = opening_machine; is_broken = false }) }
@@ -62,7 +64,20 @@ impl Machine {
         ensures paths { IfOk result (λ m. HasPaths m.state.service.plain.nodes) }
         ensures bounded { IfOk result (λ m. IsBounded m.state.service.plain) }
     {
-        let store = Store::new(alloc)?;
+        Machine::within(alloc, TreeLimits::profile())
+    }
+
+    /// Makes a machine in the initial state within these limits: the initial tree, and no cached
+    /// reply.
+    pub fn within(alloc: Global, limits: TreeLimits) -> Result<Machine, Memory>
+        requires { AreLimits limits }
+        ensures opening { IfOk result (λ m. m
+            ≡ record { state = machine_within limits; is_broken = false }) }
+        ensures lawful { IfOk result (λ m. IsLawful m.state.service.plain) }
+        ensures paths { IfOk result (λ m. HasPaths m.state.service.plain.nodes) }
+        ensures bounded { IfOk result (λ m. IsBounded m.state.service.plain) }
+    {
+        let store = Store::within(alloc, limits)?;
         store.keeps_lawful();
         store.keeps_paths();
         let Ok(kept) = CachedReplies::new(alloc) else {
@@ -205,7 +220,7 @@ fn enter(
     Ok(Some(reply))
 }
 
-// Brings into the proof that a multi has at most 64 parts.
+// Brings into the proof that a multi has few parts.
 fn keeps_few_parts(update: &Update)
     ensures { HasFewParts update.now }
 {

@@ -4,10 +4,13 @@
 //! Only a machine with memory promises that no node is of a later change or tick. One that ran out
 //! may have stopped in the middle of a change, and its tree is never read.
 
-ghost use Rattle.std.specs.Prelude.{◌≡◌, ◌≤◌, false, length, is_some, None, Some, IfNone, IfOk, IfSome};
-ghost use Rattle.std.specs.FinMap.{get, keys};
+ghost use Rattle.std.specs.Prelude.{◌≡◌, ◌≤◌, [], false, length, is_some, None, Some, IfNone, IfOk, IfSome, IsSome};
+ghost use Rattle.std.specs.FinMap.{get, keys, len};
+ghost use Rattle.ztree.specs.Limits.{AreLimits};
+ghost use Rattle.ztree.specs.Counts.{owned_count, data_count};
+ghost use Rattle.zcalls.specs.Step.{due_next, stale_next};
 ghost use Rattle.ztree.specs.declared.limits.TheConstants.{MAX_CLIENTS};
-ghost use Rattle.ztree.specs.Tree.{has_node};
+ghost use Rattle.ztree.specs.Tree.{has_node, ephemerals};
 ghost use Rattle.zops.specs.Restored.{IsOfUpdate};
 ghost use Rattle.zops.specs.RestoredLaws.{IsSettled};
 
@@ -15,7 +18,7 @@ use crate::machine::Machine;
 use zalloc::Memory;
 use zcalls::{CallNumber, Reply};
 use zpath::Path;
-use zstore::{ClientId, Node, Session, SessionId, Zxid};
+use zstore::{ClientId, Node, Session, SessionId, TreeLimits, Zxid};
 
 impl Machine {
     /// Returns the current tick.
@@ -24,6 +27,79 @@ impl Machine {
         ensures { result ≡ self.now.state.service.plain.time }
     {
         self.store.now()
+    }
+
+    /// Returns the limits of the tree.
+    pub fn limits(&self) -> TreeLimits
+        requires whole { self.now.is_broken ≡ false }
+        ensures limits { result ≡ self.now.state.service.plain.limits }
+        ensures allowed { AreLimits result }
+    {
+        self.store.keeps_lawful();
+        self.store.limits()
+    }
+
+    /// Returns the number of nodes, the root included.
+    pub fn nodes(&self) -> usize
+        requires whole { self.now.is_broken ≡ false }
+        ensures { result ≡ len self.now.state.service.plain.nodes }
+    {
+        self.store.nodes()
+    }
+
+    /// Returns the number of sessions.
+    pub fn sessions(&self) -> usize
+        requires whole { self.now.is_broken ≡ false }
+        ensures { result ≡ len self.now.state.service.plain.sessions }
+    {
+        self.store.sessions()
+    }
+
+    /// Returns the number of nodes that sessions own.
+    pub fn owned_count(&self) -> usize
+        requires whole { self.now.is_broken ≡ false }
+        ensures { result ≡ owned_count self.now.state.service.plain.nodes }
+    {
+        self.store.owned_count()
+    }
+
+    /// Returns the bytes of the data of all nodes.
+    pub fn data_count(&self) -> u64
+        requires whole { self.now.is_broken ≡ false }
+        ensures { result ≡ data_count self.now.state.service.plain.nodes }
+    {
+        self.store.data_count()
+    }
+
+    /// Returns the ids of the sessions that the next tick ends, in order; or `Memory`. The cost
+    /// depends on the number of sessions.
+    pub fn due(&self) -> Result<Vec<SessionId>, Memory>
+        requires whole { self.now.is_broken ≡ false }
+        ensures { IfOk result (λ ids. ids.items ≡ due_next self.now.state.service.plain) }
+    {
+        self.store.due(self.store.now() + 1)
+    }
+
+    /// Returns the paths of the nodes that the next tick removes as stale, in their order; or
+    /// `Memory`. The cost depends on the number of containers and nodes with a TTL.
+    pub fn stale(&self) -> Result<Vec<Path>, Memory>
+        requires whole { self.now.is_broken ≡ false }
+        ensures { IfOk result (λ paths. paths.items ≡ stale_next self.now.state.service.plain) }
+    {
+        self.store.stale_paths(self.store.now() + 1)
+    }
+
+    /// Returns the paths of the nodes that a session owns, in their order; or `Memory`. A session
+    /// that isn't there owns none. The cost depends on the number of these nodes.
+    pub fn owned(&self, session: SessionId) -> Result<Vec<Path>, Memory>
+        requires whole { self.now.is_broken ≡ false }
+        ensures owned { IfOk result (λ paths.
+            IsSome (get self.now.state.service.plain.sessions session)
+            → paths.items ≡ ephemerals self.now.state.service.plain.nodes session) }
+        ensures gone { IfOk result (λ paths.
+            get self.now.state.service.plain.sessions session ≡ None → paths.items ≡ []) }
+    {
+        self.store.owned(session)
     }
 
     /// Returns the zxid of the last change.

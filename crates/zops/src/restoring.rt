@@ -2,7 +2,7 @@
 //! parent, and the cached replies.
 //!
 //! # Why
-//! Rows are put one by one, so a state of 268 MB is never in one buffer. Sessions are put before
+//! Rows are put one by one, so a whole state is never in one buffer. Sessions are put before
 //! nodes, since a node's owner is looked up. Any order with parents first is accepted; a format
 //! with one encoding for each state orders ids and paths in its reader.
 //!
@@ -10,7 +10,7 @@
 //! are known. So each format of rows has the same test.
 //!
 //! Only replies to updates are cached, so replies to queries are refused. The longest row of a
-//! state is then known: a multi has at most 64 parts.
+//! state is then known: a multi has at most 1,024 parts.
 
 ghost use Rattle.std.specs.Prelude.{◌≡◌, ◌*◌, ◌<◌, IsTrue, IsFalse, IfOk, IfErr, OnOk, OnErr, false};
 ghost use Rattle.ztree.specs.declared.limits.TheConstants.{ZXID_BOUND};
@@ -26,11 +26,12 @@ use crate::limits::MAX_APPLIED;
 use crate::machine::Machine;
 use std::alloc::Global;
 use std::marker::Model;
-use zcalls::limits::{MAX_COUNTER, MAX_PARTS, MAX_RAISES, MAX_TIMEOUT, MIN_TIMEOUT};
+use zcalls::limits::{MAX_COUNTER, MAX_RAISES, MOST_PARTS};
 use zcalls::{CallNumber, Reply};
 use zpath::Path;
 use zstore::{ClientId, Node, RestoreFault, Session, SessionId, Store, Zxid};
-use ztree::limits::{TICK_BOUND, ZXID_BOUND};
+use ztree::TreeLimits;
+use ztree::limits::{MIN_TIMEOUT, TICK_BOUND, ZXID_BOUND};
 
 /// A machine that is being restored from rows: the rows so far.
 #[derive(Drop)]
@@ -59,19 +60,22 @@ impl Model for Restoring {
 }
 
 impl Restoring {
-    /// Begins with the root alone, at this tick, after this change and that many entries.
+    /// Begins with the root alone, at this tick, after this change and that many entries, within
+    /// these limits.
     pub fn new(
         alloc: Global,
         root: Node,
         time: u64,
         zxid: Zxid,
         applied: u64,
+        limits: TreeLimits,
     ) -> Result<Restoring, RestoreFault>
-        ensures state { IfOk result (λ r. r ≡ rooted_machine root time zxid applied) }
-        ensures can { OnOk result (CanBegin root time zxid applied) }
-        ensures fault { IfErr result (λ fault. CanBegin root time zxid applied → fault ≡ OfMemory) }
+        ensures state { IfOk result (λ r. r ≡ rooted_machine root time zxid applied limits) }
+        ensures can { OnOk result (CanBegin root time zxid applied limits) }
+        ensures fault { IfErr result (λ fault.
+            CanBegin root time zxid applied limits → fault ≡ OfMemory) }
     {
-        if !can_begin(&root, time, zxid, applied) {
+        if !can_begin(&root, time, zxid, applied, limits) {
             drop(root);
             return Err(RestoreFault::Unlawful);
         }
@@ -82,7 +86,7 @@ impl Restoring {
                 return Err(RestoreFault::Memory);
             }
         };
-        match Store::restored(alloc, root, time, zxid) {
+        match Store::restored(alloc, root, time, zxid, limits) {
             Ok(store) => Ok(Restoring {
                 alloc,
                 store,
@@ -111,7 +115,7 @@ impl Restoring {
         if session.timeout < MIN_TIMEOUT {
             return Err(RestoreFault::Unlawful);
         }
-        if session.timeout > MAX_TIMEOUT {
+        if session.timeout > self.store.limits().timeout {
             return Err(RestoreFault::Unlawful);
         }
         self.store.put_session(id, session)
@@ -181,17 +185,20 @@ fn is_of_update(reply: &Reply) -> bool
     ensures no { IsFalse result → IsOfUpdate reply.now → ⊥ }
 {
     match reply {
-        Reply::Multi(replies) => replies.as_slice().len() <= MAX_PARTS,
+        Reply::Multi(replies) => replies.as_slice().len() <= MOST_PARTS,
         Reply::Data(_, _) | Reply::Exists(_) | Reply::Children(_) => false,
         _ => true,
     }
 }
 
 // Returns whether a machine can begin with these.
-fn can_begin(root: &Node, time: u64, zxid: Zxid, applied: u64) -> bool
-    ensures yes { IsTrue result → CanBegin root.now time zxid applied }
-    ensures no { IsFalse result → CanBegin root.now time zxid applied → ⊥ }
+fn can_begin(root: &Node, time: u64, zxid: Zxid, applied: u64, limits: TreeLimits) -> bool
+    ensures yes { IsTrue result → CanBegin root.now time zxid applied limits }
+    ensures no { IsFalse result → CanBegin root.now time zxid applied limits → ⊥ }
 {
+    if !limits.is_allowed() {
+        return false;
+    }
     if root.owner != 0 {
         return false;
     }
@@ -225,7 +232,7 @@ fn is_within(zxid: Zxid, node: &Node) -> bool
     ensures no { IsFalse result → IsWithin (MAX_RAISES * zxid) node.now → ⊥ }
 {
     let raises = MAX_RAISES * zxid.number();
-    if node.version > raises || node.cversion > raises {
+    if node.version > raises || node.cversion > raises || node.aversion > raises {
         return false;
     }
     node.seq <= MAX_COUNTER + 1

@@ -9,7 +9,8 @@ ghost use Rattle.zcalls.specs.declared.reply.PartReply.TheVariants.{Checked};
 ghost use Rattle.zcalls.specs.declared.reply.Reply.TheVariants.{Deleted, Pinged, Refused, Multi};
 ghost use Rattle.zcalls.specs.declared.reply.Reply.TheVariants.{Data as DataOf, Exists, Children};
 ghost use Rattle.zops.specs.declared.limits.TheConstants.{MAX_APPLIED};
-ghost use Rattle.zops.specs.Machine.{opening_machine};
+ghost use Rattle.zops.specs.Machine.{opening_machine, machine_within};
+ghost use Rattle.zops.specs.support.Rows.{seven_nodes, RefusesTheEighth};
 ghost use Rattle.zops.specs.Restored.{rooted_machine, with_plain, with_reply, IsOfUpdate, IsDated};
 
 /// The limit as a number.
@@ -28,12 +29,12 @@ pub fn dates()
     ensures mtime { IsDated 3 4 some_node → ⊥ }
 {}
 
-/// Which replies are cached: those to updates. A multi has at most 64 parts.
+/// Which replies are cached: those to updates. A multi has at most 1,024 parts.
 pub fn cached_replies()
     ensures deleted { IsOfUpdate Deleted }
     ensures refused { IsOfUpdate (Refused NoNode) }
-    ensures multi { IsOfUpdate (Multi (replicate 64 Checked)) }
-    ensures too_many { IsOfUpdate (Multi (replicate 65 Checked)) → ⊥ }
+    ensures multi { IsOfUpdate (Multi (replicate 1024 Checked)) }
+    ensures too_many { IsOfUpdate (Multi (replicate 1025 Checked)) → ⊥ }
     ensures names { IsOfUpdate (Children []) → ⊥ }
     ensures content { IsOfUpdate (DataOf [] (stat_with some_node 0)) → ⊥ }
     ensures exists { IsOfUpdate (Exists (stat_with some_node 0)) → ⊥ }
@@ -41,9 +42,9 @@ pub fn cached_replies()
 
 /// The machine restored from rows: a reply is cached for its own client, and the tree stays.
 pub fn rows_make_a_machine()
-    ensures applied { (rooted_machine some_node 8 40 7).applied ≡ 7 }
-    ensures time { (rooted_machine some_node 8 40 7).service.plain.time ≡ 8 }
-    ensures zxid { (rooted_machine some_node 8 40 7).service.plain.zxid ≡ 40 }
+    ensures applied { (rooted_machine some_node 8 40 7 seven_nodes).applied ≡ 7 }
+    ensures time { (rooted_machine some_node 8 40 7 seven_nodes).service.plain.time ≡ 8 }
+    ensures zxid { (rooted_machine some_node 8 40 7 seven_nodes).service.plain.zxid ≡ 40 }
     ensures tree { (with_plain opening_machine two_nodes).service.plain ≡ two_nodes }
     ensures reply { get (with_reply opening_machine 3 5 Deleted).service.kept 3
         ≡ Some (record { number = 5; reply = Deleted }) }
@@ -52,4 +53,12 @@ pub fn rows_make_a_machine()
         ≡ Some (record { number = 5; reply = Deleted }) }
     ensures stays { (with_reply opening_machine 3 5 Deleted).service.plain
         ≡ opening_machine.service.plain }
+{}
+
+/// The limits of a machine's tree.
+pub fn limits_of_a_machine()
+    ensures opening { (machine_within seven_nodes).service.plain.limits.nodes ≡ 7 }
+    ensures profile { opening_machine.service.plain.limits.nodes ≡ 4096 }
+    ensures rooted { (rooted_machine some_node 8 40 7 seven_nodes).service.plain.limits.nodes ≡ 7 }
+    ensures eighth { RefusesTheEighth }
 {}

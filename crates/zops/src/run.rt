@@ -6,7 +6,7 @@
 
 ghost use Rattle.std.specs.Prelude.{◌≡◌, ◌≤◌, ◌+◌, Ok, length, IfOk, IfErr, OnOk};
 ghost use Rattle.zcalls.specs.Multi.{run};
-ghost use Rattle.zcalls.specs.declared.limits.TheConstants.{MAX_PARTS};
+ghost use Rattle.zcalls.specs.declared.limits.TheConstants.{MOST_PARTS};
 ghost use Rattle.zops.specs.support.Ready.{IsReady, IsRun, HasMark};
 ghost use Rattle.zops.specs.support.Steps.{Gives};
 ghost use Rattle.zstore.specs.StoreView.{Mark};
@@ -28,12 +28,12 @@ pub(crate) fn run(
     parts: &[Part],
 ) -> Result<Vec<PartReply>, Halt>
     requires ready { IsReady store.old }
-    requires few { length parts.now ≤ MAX_PARTS }
+    requires few { length parts.now ≤ MOST_PARTS }
     ensures done { IfOk result (λ r.
         Gives (run store.old.tree client parts.now) store.new r.items) }
     ensures stopped { IfErr result (IsHalt (run store.old.tree client parts.now)) }
     ensures stays { OnOk result (IsRun store.old store.new) }
-    ensures given { store.new.given ≤ store.old.given + MAX_PARTS }
+    ensures given { store.new.given ≤ store.old.given + MOST_PARTS }
     ensures mark { (m : Mark) → HasMark (length parts.now) m store.old → HasMark 0 m store.new }
 {
     let mut replies = Vec::with_capacity(alloc, parts.len())?;

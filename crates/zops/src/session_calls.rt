@@ -18,10 +18,9 @@ ghost use Rattle.zcalls.specs.declared.call.Update.TheVariants.{Open, Ping, Clos
 ghost use Rattle.zcalls.specs.declared.reply.Reply.TheVariants as reply;
 
 use zalloc::Memory;
-use zcalls::limits::{MAX_TIMEOUT, MIN_TIMEOUT};
 use zcalls::{Refusal, Reply};
 use zstore::{Id, Store};
-use ztree::limits::MAX_SESSIONS;
+use ztree::limits::MIN_TIMEOUT;
 use ztree::{ClientId, SessionId};
 
 /// Returns whether the session is gone for this client: it doesn't exist, or belongs to another
@@ -35,14 +34,14 @@ pub(crate) fn is_gone(store: &Store, client: ClientId, session: SessionId) -> bo
     }
 }
 
-// Returns the timeout granted for the one asked for.
-fn granted(ticks: u64) -> u64
-    ensures { result ≡ granted_timeout ticks }
+// Returns the timeout granted for the one asked for, where this is the greatest.
+fn granted(greatest: u64, ticks: u64) -> u64
+    ensures { result ≡ granted_timeout greatest ticks }
 {
     if ticks < MIN_TIMEOUT {
         MIN_TIMEOUT
-    } else if ticks > MAX_TIMEOUT {
-        MAX_TIMEOUT
+    } else if ticks > greatest {
+        greatest
     } else {
         ticks
     }
@@ -56,10 +55,11 @@ pub(crate) fn open(store: &mut Store, client: ClientId, ticks: u64) -> Result<Re
     ensures left { StaysBounded store.old store.new }
     ensures err { OnErr result (IsAsItWas store.old store.new) }
 {
-    if store.sessions() >= MAX_SESSIONS {
+    if store.sessions() >= store.limits().sessions {
         return Ok(Reply::Refused(Refusal::TooManySessions));
     }
-    let timeout = granted(ticks);
+    store.keeps_lawful();
+    let timeout = granted(store.limits().timeout, ticks);
     store.open_session(client, timeout)?;
     store.raise();
     Ok(Reply::Opened(SessionId::of(store.zxid()), timeout))
@@ -71,6 +71,7 @@ pub(crate) fn ping(store: &mut Store, client: ClientId, session: SessionId) -> R
     ensures done { (store.new.tree, result) ≡ update_result store.old.tree client (Ping session) }
     ensures left { StaysBounded store.old store.new }
 {
+    store.keeps_lawful();
     if !store.keep_alive(client, session) {
         return Reply::Refused(Refusal::SessionGone);
     }

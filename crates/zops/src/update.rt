@@ -11,7 +11,7 @@ ghost use Rattle.zops.specs.support.Ready.{IsSteady, IsReady, StaysBounded, IsAs
 ghost use Rattle.zops.specs.support.Steps.{Makes};
 ghost use Rattle.zops.specs.support.Stops.{IsHaltAnswered};
 
-use crate::change::{create, delete, set};
+use crate::change::{create, delete, set, set_acl};
 use crate::run::run;
 use crate::session_calls::{close, open, ping, tick};
 use crate::stop::{Halt, Stop};
@@ -42,6 +42,7 @@ pub(crate) fn update(
         Update::Create(wanted) => create(alloc, store, client, wanted),
         Update::Delete(wanted) => delete(store, wanted),
         Update::SetData(wanted) => set(store, wanted),
+        Update::SetAcl(wanted) => set_acl(store, wanted),
         Update::Multi(parts) => return multi(alloc, store, client, parts),
         Update::Open(ticks) => return open(store, client, *ticks),
         Update::Ping(session) => return Ok(ping(store, client, *session)),
@@ -70,6 +71,7 @@ fn is_exhausted(store: &Store, update: &Update) -> bool
         | Update::Create(_)
         | Update::Delete(_)
         | Update::SetData(_)
+        | Update::SetAcl(_)
         | Update::Multi(_)
         | Update::Open(_)
         | Update::Close(_) => store.zxid().number() + 1 >= ZXID_BOUND,

@@ -1,10 +1,9 @@
 -- A request's calls act for the session of its connection alone.
 use Rattle.std.proofs.Common.{◌≡◌, ℕ, List, [], ◌∷◌, Option, Ok, Err, refl}
-use Rattle.std.specs.Prelude.{ℤ, pos, nat_lt, length, Some, None, if◌then◌else◌}
+use Rattle.std.specs.Prelude.{ℤ, pos, nat_lt, length, Some, None}
 use Rattle.std.specs.List.{AllByRecursion}
 use Rattle.std.specs.Ordering.{int_eq}
 use Rattle.ztree.specs.Tree.{Path}
-use Rattle.zcalls.specs.declared.limits.TheConstants.{MAX_PARTS}
 use Rattle.zcalls.specs.declared.call.Kind.{Kind}
 use Rattle.zcalls.specs.declared.call.Lifetime.TheVariants.{Persistent, WithTtl, Ephemeral, Container}
 use Rattle.zcalls.specs.Part.{named, sequential}
@@ -27,8 +26,9 @@ use Rattle.zjute.specs.declared.part.LookPart.TheVariants as of_look
 use Rattle.zjute.specs.WatchNumbers.{mode_of, type_of}
 use Rattle.zrequests.specs.declared.fault.Unasked.TheVariants.{Refused}
 use Rattle.zrequests.specs.declared.limits.TheConstants.{MAX_PATHS}
+use Rattle.zrequests.specs.Terms.{Terms}
 use Rattle.zrequests.specs.Asking.{Meaning, then_means, each_in, path_in, data_in, has_open_acl, kind_in, ttl_in, timed_kind_in}
-use Rattle.zrequests.specs.Requests.{node_in, create_in, timed_create_in, delete_in, check_in, set_in, part_in, one, one_of_parts, or_never, parts_in, multi_in, query_in, look_in, looks_in, watch_in, watched_in, all_watched_in, numbered_in, look_alone, create_alone}
+use Rattle.zrequests.specs.Requests.{node_in, create_in, timed_create_in, delete_in, check_in, set_in, set_acl_in, part_in, one, one_of_parts, or_never, parts_in, multi_in, query_in, look_in, looks_in, watch_in, watched_in, all_watched_in, numbered_in, look_alone, create_alone}
 use Rattle.zrequests.proofs.Meanings.{choice, done, each_for, never, behind, through}
 use Rattle.zrequests.specs.Laws.{IsForSession, PartIsFor, CallIsFor, CallsAreForTheirSession}
 
@@ -54,39 +54,39 @@ module _ (session : ℕ) where
       choice P (int_eq flags (pos 5)) (Ok (named (WithTtl ticks))) _ (done P (named (WithTtl ticks)) tt)
       (choice P (int_eq flags (pos 6)) (Ok (sequential (WithTtl ticks))) (Err (Refused BadArguments)) (done P (sequential (WithTtl ticks)) tt) (never P (Refused BadArguments)))
 
-  node_for : (kind : Kind) (create : AskedCreate) → IsForSession session kind.lifetime → (made : Create) → node_in kind create ≡ Ok made → Made made
-  node_for kind create is =
+  node_for : (terms : Terms) (kind : Kind) (create : AskedCreate) → IsForSession session kind.lifetime → (made : Create) → node_in terms kind create ≡ Ok made → Made made
+  node_for terms kind create is =
       behind Made (path_in create.path) _
-      (λ path. choice Made (has_open_acl create.acls) (then_means (data_in create.bytes) (λ bytes. Ok (record { path = path; kind = kind; bytes = bytes }))) (Err (Refused InvalidAcl))
-      (behind Made (data_in create.bytes) (λ bytes. Ok (record { path = path; kind = kind; bytes = bytes })) (λ bytes. done Made (record { path = path; kind = kind; bytes = bytes }) is))
+      (λ path. choice Made (has_open_acl create.acls) (then_means (data_in terms create.bytes) (λ bytes. Ok (record { path = path; kind = kind; bytes = bytes }))) (Err (Refused InvalidAcl))
+      (behind Made (data_in terms create.bytes) (λ bytes. Ok (record { path = path; kind = kind; bytes = bytes })) (λ bytes. done Made (record { path = path; kind = kind; bytes = bytes }) is))
       (never Made (Refused InvalidAcl)))
 
-  create_for : (create : AskedCreate) (made : Create) → create_in session create ≡ Ok made → Made made
-  create_for create = through (λ (k : Kind). IsForSession session k.lifetime) Made (kind_in session create.flags) (λ kind. node_in kind create) (kind_for create.flags) (λ kind. node_for kind create)
+  create_for : (terms : Terms) (create : AskedCreate) (made : Create) → create_in terms session create ≡ Ok made → Made made
+  create_for terms create = through (λ (k : Kind). IsForSession session k.lifetime) Made (kind_in session create.flags) (λ kind. node_in terms kind create) (kind_for create.flags) (λ kind. node_for terms kind create)
 
-  timed_create_for : (tick : ℕ) (timed : CreateTtl) (made : Create) → timed_create_in tick timed ≡ Ok made → Made made
-  timed_create_for tick timed =
-      behind Made (ttl_in tick timed.ttl) (λ ticks. then_means (timed_kind_in ticks timed.create.flags) (λ kind. node_in kind timed.create))
-      (λ ticks. through (λ (k : Kind). IsForSession session k.lifetime) Made (timed_kind_in ticks timed.create.flags) (λ kind. node_in kind timed.create) (timed_for ticks timed.create.flags) (λ kind. node_for kind timed.create))
+  timed_create_for : (terms : Terms) (timed : CreateTtl) (made : Create) → timed_create_in terms timed ≡ Ok made → Made made
+  timed_create_for terms timed =
+      behind Made (ttl_in terms.tick timed.ttl) (λ ticks. then_means (timed_kind_in ticks timed.create.flags) (λ kind. node_in terms kind timed.create))
+      (λ ticks. through (λ (k : Kind). IsForSession session k.lifetime) Made (timed_kind_in ticks timed.create.flags) (λ kind. node_in terms kind timed.create) (timed_for ticks timed.create.flags) (λ kind. node_for terms kind timed.create))
 
   made_part : (m : Meaning Create) → ((made : Create) → m ≡ Ok made → Made made) → (p : Part) → then_means m (λ create. Ok (part.Create create)) ≡ Ok p → PartIsFor session p
   made_part m for = through Made (PartIsFor session) m (λ create. Ok (part.Create create)) for (λ create is. done (PartIsFor session) (part.Create create) is)
 
-  part_for : (tick : ℕ) (asked : AskedPart) (p : Part) → part_in tick session asked ≡ Ok p → PartIsFor session p
-  part_for tick (of_multi.Create create) = made_part (create_in session create) (create_for create)
-  part_for tick (of_multi.Create2 create) = made_part (create_in session create) (create_for create)
-  part_for tick (of_multi.CreateTtl timed) = made_part (timed_create_in tick timed) (timed_create_for tick timed)
-  part_for tick (of_multi.CreateContainer create) = made_part (create_in session create) (create_for create)
-  part_for tick (of_multi.Delete at) = behind (PartIsFor session) (delete_in at) (λ delete. Ok (part.Delete delete)) (λ delete. done (PartIsFor session) (part.Delete delete) tt)
-  part_for tick (of_multi.SetData set) = behind (PartIsFor session) (set_in set) (λ set. Ok (part.SetData set)) (λ set. done (PartIsFor session) (part.SetData set) tt)
-  part_for tick (of_multi.Check at) = behind (PartIsFor session) (check_in at) (λ check. Ok (part.Check check)) (λ check. done (PartIsFor session) (part.Check check) tt)
+  part_for : (terms : Terms) (asked : AskedPart) (p : Part) → part_in terms session asked ≡ Ok p → PartIsFor session p
+  part_for terms (of_multi.Create create) = made_part (create_in terms session create) (create_for terms create)
+  part_for terms (of_multi.Create2 create) = made_part (create_in terms session create) (create_for terms create)
+  part_for terms (of_multi.CreateTtl timed) = made_part (timed_create_in terms timed) (timed_create_for terms timed)
+  part_for terms (of_multi.CreateContainer create) = made_part (create_in terms session create) (create_for terms create)
+  part_for terms (of_multi.Delete at) = behind (PartIsFor session) (delete_in at) (λ delete. Ok (part.Delete delete)) (λ delete. done (PartIsFor session) (part.Delete delete) tt)
+  part_for terms (of_multi.SetData set) = behind (PartIsFor session) (set_in terms set) (λ set. Ok (part.SetData set)) (λ set. done (PartIsFor session) (part.SetData set) tt)
+  part_for terms (of_multi.Check at) = behind (PartIsFor session) (check_in at) (λ check. Ok (part.Check check)) (λ check. done (PartIsFor session) (part.Check check) tt)
 
-  parts_for : (tick : ℕ) (parts : List AskedPart) → AllByRecursion (PartIsFor session) (parts_in tick session parts)
-  parts_for tick [] = tt
-  parts_for tick (asked ∷ more) = at (part_in tick session asked) (part_for tick asked) (parts_for tick more)
+  parts_for : (terms : Terms) (parts : List AskedPart) → AllByRecursion (PartIsFor session) (parts_in terms session parts)
+  parts_for terms [] = tt
+  parts_for terms (asked ∷ more) = at (part_in terms session asked) (part_for terms asked) (parts_for terms more)
     where
-      at : (m : Meaning Part) → ((p : Part) → m ≡ Ok p → PartIsFor session p) → AllByRecursion (PartIsFor session) (parts_in tick session more)
-          → AllByRecursion (PartIsFor session) (or_never m (parts_in tick session more))
+      at : (m : Meaning Part) → ((p : Part) → m ≡ Ok p → PartIsFor session p) → AllByRecursion (PartIsFor session) (parts_in terms session more)
+          → AllByRecursion (PartIsFor session) (or_never m (parts_in terms session more))
       at (Ok p) for are = (for p refl, are)
       at (Err why) for are = (tt, tt)
 
@@ -106,16 +106,16 @@ module _ (session : ℕ) where
   made_for : (m : Meaning Create) → ((made : Create) → m ≡ Ok made → Made made) → (calls : List Call) → create_alone m ≡ Ok calls → Calls calls
   made_for m for = through Made Calls m (λ create. one (Update (act.Create create))) for (λ create is. one_for (Update (act.Create create)) is)
 
-  multi_for : (tick : ℕ) (parts : List AskedPart) (calls : List Call) → multi_in tick session parts ≡ Ok calls → Calls calls
-  multi_for tick [] = done Calls [] tt
-  multi_for tick (first ∷ parts) =
-      let all = parts_in tick session (first ∷ parts) in
-      choice Calls (nat_lt MAX_PARTS (length (first ∷ parts))) (Err (Refused BadArguments)) (one_of_parts all)
-      (never Calls (Refused BadArguments)) (one_for (Update (act.Multi all)) (parts_for tick (first ∷ parts)))
+  multi_for : (terms : Terms) (parts : List AskedPart) (calls : List Call) → multi_in terms session parts ≡ Ok calls → Calls calls
+  multi_for terms [] = done Calls [] tt
+  multi_for terms (first ∷ parts) =
+      let all = parts_in terms session (first ∷ parts) in
+      choice Calls (nat_lt terms.parts (length (first ∷ parts))) (Err (Refused BadArguments)) (one_of_parts all)
+      (never Calls (Refused BadArguments)) (one_for (Update (act.Multi all)) (parts_for terms (first ∷ parts)))
 
-  looks_for : (looks : List LookPart) (calls : List Call) → looks_in looks ≡ Ok calls → Calls calls
-  looks_for looks =
-      choice Calls (nat_lt MAX_PARTS (length looks)) (Err (Refused BadArguments)) (each_in look_in looks) (never Calls (Refused BadArguments))
+  looks_for : (terms : Terms) (looks : List LookPart) (calls : List Call) → looks_in terms looks ≡ Ok calls → Calls calls
+  looks_for terms looks =
+      choice Calls (nat_lt terms.parts (length looks)) (Err (Refused BadArguments)) (each_in look_in looks) (never Calls (Refused BadArguments))
       (each_for (CallIsFor session) look_in look_for looks)
 
 numbered_for : {A : Type 0} (session : ℕ) (known : Option A) (path : Option (List ℕ)) (calls : List Call) → numbered_in known path ≡ Ok calls → Calls session calls
@@ -123,43 +123,41 @@ numbered_for session None path = never (Calls session) (Refused MarshallingError
 numbered_for session (Some known) path = alone_for session Exists path
 
 pub calls_are_for_their_session : CallsAreForTheirSession
-calls_are_for_their_session tick session (asked.Create create) = made_for session (create_in session create) (create_for session create)
-calls_are_for_their_session tick session (asked.Create2 create) = made_for session (create_in session create) (create_for session create)
-calls_are_for_their_session tick session (asked.CreateContainer create) = made_for session (create_in session create) (create_for session create)
-calls_are_for_their_session tick session (asked.CreateTtl timed) = made_for session (timed_create_in tick timed) (timed_create_for session tick timed)
-calls_are_for_their_session tick session (asked.Delete at) = behind (Calls session) (delete_in at) (λ delete. one (Update (act.Delete delete))) (λ delete. one_for session (Update (act.Delete delete)) tt)
-calls_are_for_their_session tick session (asked.SetData set) = behind (Calls session) (set_in set) (λ set. one (Update (act.SetData set))) (λ set. one_for session (Update (act.SetData set)) tt)
-calls_are_for_their_session tick session (asked.Check at) = behind (Calls session) (check_in at) (λ check. one_of_parts (part.Check check ∷ [])) (λ check. one_for session (Update (act.Multi (part.Check check ∷ []))) (tt, tt))
-calls_are_for_their_session tick session (asked.Multi parts) = multi_for session tick parts
-calls_are_for_their_session tick session (asked.Exists look) = alone_for session Exists look.path
-calls_are_for_their_session tick session (asked.GetData look) = alone_for session GetData look.path
-calls_are_for_their_session tick session (asked.GetChildren look) = alone_for session GetChildren look.path
-calls_are_for_their_session tick session (asked.GetChildren2 look) =
+calls_are_for_their_session terms session (asked.Create create) = made_for session (create_in terms session create) (create_for session terms create)
+calls_are_for_their_session terms session (asked.Create2 create) = made_for session (create_in terms session create) (create_for session terms create)
+calls_are_for_their_session terms session (asked.CreateContainer create) = made_for session (create_in terms session create) (create_for session terms create)
+calls_are_for_their_session terms session (asked.CreateTtl timed) = made_for session (timed_create_in terms timed) (timed_create_for session terms timed)
+calls_are_for_their_session terms session (asked.Delete at) = behind (Calls session) (delete_in at) (λ delete. one (Update (act.Delete delete))) (λ delete. one_for session (Update (act.Delete delete)) tt)
+calls_are_for_their_session terms session (asked.SetData set) = behind (Calls session) (set_in terms set) (λ set. one (Update (act.SetData set))) (λ set. one_for session (Update (act.SetData set)) tt)
+calls_are_for_their_session terms session (asked.Check at) = behind (Calls session) (check_in at) (λ check. one_of_parts (part.Check check ∷ [])) (λ check. one_for session (Update (act.Multi (part.Check check ∷ []))) (tt, tt))
+calls_are_for_their_session terms session (asked.Multi parts) = multi_for session terms parts
+calls_are_for_their_session terms session (asked.Exists look) = alone_for session Exists look.path
+calls_are_for_their_session terms session (asked.GetData look) = alone_for session GetData look.path
+calls_are_for_their_session terms session (asked.GetChildren look) = alone_for session GetChildren look.path
+calls_are_for_their_session terms session (asked.GetChildren2 look) =
     behind (Calls session) (path_in look.path) (λ path. Ok (Query (GetChildren path) ∷ Query (Exists path) ∷ []))
     (λ path. done (Calls session) (Query (GetChildren path) ∷ Query (Exists path) ∷ []) (tt, (tt, tt)))
-calls_are_for_their_session tick session (asked.GetAcl path) = alone_for session Exists path
-calls_are_for_their_session tick session (asked.MultiRead looks) = looks_for session looks
-calls_are_for_their_session tick session (asked.SetWatches set) =
+calls_are_for_their_session terms session (asked.GetAcl path) = alone_for session Exists path
+calls_are_for_their_session terms session (asked.MultiRead looks) = looks_for session terms looks
+calls_are_for_their_session terms session (asked.SetWatches set) =
     choice (Calls session) (nat_lt MAX_PATHS (length (watched_in set))) (Err (Refused BadArguments)) (each_in watch_in (watched_in set)) (never (Calls session) (Refused BadArguments))
     (each_for (CallIsFor session) watch_in (λ path. query_for session Exists (Some path)) (watched_in set))
-calls_are_for_their_session tick session (asked.Sync None) = never (Calls session) (Refused BadArguments)
-calls_are_for_their_session tick session (asked.Sync (Some path)) = done (Calls session) [] tt
-calls_are_for_their_session tick session (asked.Auth auth) =
+calls_are_for_their_session terms session (asked.Sync None) = never (Calls session) (Refused BadArguments)
+calls_are_for_their_session terms session (asked.Sync (Some path)) = done (Calls session) [] tt
+calls_are_for_their_session terms session (asked.Auth auth) =
     choice (Calls session) _ (Ok []) (Err (Refused AuthFailed)) (done (Calls session) [] tt) (never (Calls session) (Refused AuthFailed))
-calls_are_for_their_session tick session asked.Ping = done (Calls session) [] tt
-calls_are_for_their_session tick session asked.CloseSession = one_for session (Update (act.Close session)) refl
-calls_are_for_their_session tick session (asked.SetAcl set) =
-    behind (Calls session) (path_in set.path) (λ path. if has_open_acl set.acls then one (Query (Exists path)) else Err (Refused InvalidAcl))
-    (λ path. choice (Calls session) (has_open_acl set.acls) (one (Query (Exists path))) (Err (Refused InvalidAcl))
-    (one_for session (Query (Exists path)) tt) (never (Calls session) (Refused InvalidAcl)))
-calls_are_for_their_session tick session (asked.Sasl token) = done (Calls session) [] tt
-calls_are_for_their_session tick session (asked.GetEphemerals front) = done (Calls session) [] tt
-calls_are_for_their_session tick session (asked.GetAllChildrenNumber top) = done (Calls session) [] tt
-calls_are_for_their_session tick session asked.WhoAmI = done (Calls session) [] tt
-calls_are_for_their_session tick session (asked.CheckWatches at) = numbered_for session (type_of at.kind) at.path
-calls_are_for_their_session tick session (asked.RemoveWatches at) = numbered_for session (type_of at.kind) at.path
-calls_are_for_their_session tick session (asked.SetWatches2 set) =
+calls_are_for_their_session terms session asked.Ping = done (Calls session) [] tt
+calls_are_for_their_session terms session asked.CloseSession = one_for session (Update (act.Close session)) refl
+calls_are_for_their_session terms session (asked.SetAcl set) =
+    behind (Calls session) (set_acl_in set) (λ set. one (Update (act.SetAcl set))) (λ set. one_for session (Update (act.SetAcl set)) tt)
+calls_are_for_their_session terms session (asked.Sasl token) = done (Calls session) [] tt
+calls_are_for_their_session terms session (asked.GetEphemerals front) = done (Calls session) [] tt
+calls_are_for_their_session terms session (asked.GetAllChildrenNumber top) = done (Calls session) [] tt
+calls_are_for_their_session terms session asked.WhoAmI = done (Calls session) [] tt
+calls_are_for_their_session terms session (asked.CheckWatches at) = numbered_for session (type_of at.kind) at.path
+calls_are_for_their_session terms session (asked.RemoveWatches at) = numbered_for session (type_of at.kind) at.path
+calls_are_for_their_session terms session (asked.SetWatches2 set) =
     choice (Calls session) (nat_lt MAX_PATHS (length (all_watched_in set))) (Err (Refused BadArguments)) (each_in watch_in (all_watched_in set)) (never (Calls session) (Refused BadArguments))
     (each_for (CallIsFor session) watch_in (λ path. query_for session Exists (Some path)) (all_watched_in set))
-calls_are_for_their_session tick session (asked.AddWatch add) = numbered_for session (mode_of add.mode) add.path
-calls_are_for_their_session tick session (asked.Other kind bytes) = never (Calls session) _
+calls_are_for_their_session terms session (asked.AddWatch add) = numbered_for session (mode_of add.mode) add.path
+calls_are_for_their_session terms session (asked.Other kind bytes) = never (Calls session) _

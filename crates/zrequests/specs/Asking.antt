@@ -4,11 +4,12 @@
 -- in ticks, and accepting only the open ACL are this project's profile.
 use Rattle.std.specs.Prelude.{◌≡◌, ◌⊎◌, ℕ, zero, suc, ℤ, pos, negsuc, Bool, false, ◌&&◌, nat_lt, nat_le, List, [], ◌∷◌, ◌++◌, length, codes, Option, None, Some, is_some, Result, Ok, Err, if◌then◌else◌}
 use Rattle.std.specs.Int.{div_ceil}
+use Rattle.std.specs.List.{list_all}
 use Rattle.std.specs.Ordering.{int_eq}
 use Rattle.std.specs.Str.{bytes_eq}
 use Rattle.zpath.specs.Faults.{fault_of, names_of}
 use Rattle.ztree.specs.Tree.{Path}
-use Rattle.ztree.specs.declared.limits.TheConstants.{MAX_DATA, MAX_TTL}
+use Rattle.ztree.specs.declared.limits.TheConstants.{MAX_TTL}
 use Rattle.zcalls.specs.declared.call.Kind.{Kind}
 use Rattle.zcalls.specs.declared.call.Lifetime.TheVariants.{Persistent, WithTtl, Ephemeral, Container}
 use Rattle.zcalls.specs.Part.{named, sequential}
@@ -19,6 +20,7 @@ use Rattle.zjute.specs.declared.code.Code.TheVariants.{BadArguments}
 use Rattle.zrequests.specs.declared.limits.TheConstants.{NO_VERSION, ALL_PERMISSIONS}
 use Rattle.zrequests.specs.declared.fault.Unasked.{Unasked}
 use Rattle.zrequests.specs.declared.fault.Unasked.TheVariants.{Refused, Memory}
+use Rattle.zrequests.specs.Terms.{Terms}
 
 -- what a request means, or why it makes no call
 abbrev pub Meaning : Type 0 → Type 0
@@ -47,10 +49,10 @@ abbrev pub path_in : Option (List ℕ) → Meaning Path
 path_in None = Err (Refused BadArguments)
 path_in (Some text) = if is_some (fault_of text) then Err (Refused BadArguments) else Ok (names_of text)
 
--- data; a null buffer means no bytes
-abbrev pub data_in : Option (List ℕ) → Meaning (List ℕ)
-data_in None = Ok []
-data_in (Some bytes) = if nat_lt MAX_DATA (length bytes) then Err (Refused BadArguments) else Ok bytes
+-- data, of at most the size of the terms; a null buffer means no bytes
+abbrev pub data_in : Terms → Option (List ℕ) → Meaning (List ℕ)
+data_in terms None = Ok []
+data_in terms (Some bytes) = if nat_lt terms.bytes (length bytes) then Err (Refused BadArguments) else Ok bytes
 
 -- a version: -1 matches any; no node has one below -1
 abbrev pub version_in : ℤ → Expected
@@ -67,9 +69,9 @@ is_text text (Some bytes) = bytes_eq bytes text
 abbrev pub is_open : Acl → Bool
 is_open acl = int_eq acl.perms ALL_PERMISSIONS && is_text (codes "world") acl.scheme && is_text (codes "anyone") acl.id
 
--- an ACL; only the open one is accepted, and no null list
+-- an ACL; only the open one is accepted, which may be named several times, and no null or empty list
 abbrev pub has_open_acl : Option (List Acl) → Bool
-has_open_acl (Some (acl ∷ [])) = is_open acl
+has_open_acl (Some (acl ∷ acls)) = list_all is_open (acl ∷ acls)
 has_open_acl acls = false
 
 -- the kind of a node created for a session, by its number (`CreateMode`)

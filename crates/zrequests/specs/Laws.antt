@@ -17,6 +17,7 @@ use Rattle.zcalls.specs.Step.{step}
 use Rattle.zjute.specs.declared.part.PartRequest.{PartRequest as AskedPart}
 use Rattle.zjute.specs.declared.request.Asked.{Asked}
 use Rattle.zrequests.specs.declared.limits.TheConstants.{NO_VERSION}
+use Rattle.zrequests.specs.Terms.{Terms}
 use Rattle.zrequests.specs.Requests.{calls_in, part_in, parts_in}
 
 -- a node of this lifetime belongs to the session, or to no session
@@ -39,6 +40,7 @@ abbrev pub UpdateIsFor : ℕ → Act → Type 0
 UpdateIsFor session (act.Create create) = IsForSession session create.kind.lifetime
 UpdateIsFor session (act.Delete delete) = Unit {0}
 UpdateIsFor session (act.SetData set) = Unit {0}
+UpdateIsFor session (act.SetAcl set) = Unit {0}
 UpdateIsFor session (act.Multi parts) = AllByRecursion (PartIsFor session) parts
 UpdateIsFor session (act.Open ticks) = ⊥
 UpdateIsFor session (act.Ping id) = ⊥
@@ -53,15 +55,18 @@ CallIsFor session (Query query) = Unit {0}
 -- the calls of a request act for the session of its connection only
 abbrev pub CallsAreForTheirSession : Type 0
 CallsAreForTheirSession =
-    (tick session : ℕ) (asked : Asked) (calls : List Call) → calls_in tick session asked ≡ Ok calls → AllByRecursion (CallIsFor session) calls
+    (terms : Terms) (session : ℕ) (asked : Asked) (calls : List Call) → calls_in terms session asked ≡ Ok calls
+    → AllByRecursion (CallIsFor session) calls
 
 -- a multi that has a part that is refused at once leaves the whole tree unchanged, whatever the tree
 -- and its other parts are
 abbrev pub RefusedPartsAreNeverDone : Type 0
 RefusedPartsAreNeverDone =
-    (t : Tree) (client tick session : ℕ) (parts : List AskedPart) → list_any (λ part. is_err (part_in tick session part)) parts ≡ true
-    → (step t client (act.Multi (parts_in tick session parts))).0 ≡ t
+    (t : Tree) (terms : Terms) (client session : ℕ) (parts : List AskedPart)
+    → list_any (λ part. is_err (part_in terms session part)) parts ≡ true
+    → (step t client (act.Multi (parts_in terms session parts))).0 ≡ t
 
--- no node has version `NO_VERSION`, in any tree that a machine holds
+-- no node has version `NO_VERSION`, and no access control list has, in any tree that a machine holds
 abbrev pub NoNodeHasNoVersion : Type 0
-NoNodeHasNoVersion = (t : Tree) (path : Path) (n : Node) → IsBounded t → get t.nodes path ≡ Some n → n.version < NO_VERSION
+NoNodeHasNoVersion =
+    (t : Tree) (path : Path) (n : Node) → IsBounded t → get t.nodes path ≡ Some n → (n.version < NO_VERSION) × (n.aversion < NO_VERSION)

@@ -1,4 +1,5 @@
 pub mod Codes
+pub mod Terms
 pub mod Asking
 pub mod Requests
 pub mod Timeouts

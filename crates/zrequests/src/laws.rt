@@ -14,7 +14,8 @@ pub fn refused_parts_are_never_done()
     ensures { RefusedPartsAreNeverDone }
 {}
 
-/// No node has the version `NO_VERSION`: each version in a tree that a machine holds is below it.
+/// No node has the version `NO_VERSION`, and no access control list has: each version in a tree
+/// that a machine holds is below it.
 pub fn no_node_has_no_version()
     ensures { NoNodeHasNoVersion }
 {}

@@ -6,9 +6,10 @@
 //! parts.
 //!
 //! `calls_of` returns the calls that a request makes, or why it makes none (`calls_in`,
-//! `specs/Requests.antt`). `code_of` returns the error code for a refusal. `ticks_asked` and
-//! `millis_reported` convert session timeouts to ticks and back. All of it is pure: it knows no
-//! connection, no session but the one given, and no state of the service.
+//! `specs/Requests.antt`). Its `Terms` are what the server accepts, chosen when it starts.
+//! `code_of` returns the error code for a refusal. `ticks_asked` and `millis_reported` convert
+//! session timeouts to ticks and back. All of it is pure: it knows no connection, no session but the
+//! one given, and no state of the service.
 //!
 //! # Why
 //!
@@ -24,6 +25,7 @@ mod lists;
 mod nodes;
 mod requests;
 mod rows;
+mod terms;
 mod tick;
 mod timeouts;
 mod words;
@@ -34,5 +36,6 @@ pub use fault::Unasked;
 pub use limits::{ALL_PERMISSIONS, NO_VERSION};
 pub use nodes::refused_part;
 pub use requests::calls_of;
+pub use terms::Terms;
 pub use tick::TickLength;
 pub use timeouts::{millis_reported, ticks_asked};

@@ -1,6 +1,6 @@
 //! Numbers that clauses and definitions refer to by name.
 
-/// A version that no node has.
+/// A version that no node has, and no access control list.
 pub const NO_VERSION: u64 = 1 << 61;
 
 /// All permissions, one bit each (`ZooDefs.Perms.ALL`).

@@ -14,7 +14,7 @@ ghost use Rattle.zrequests.specs.Requests.{all_watched_in, all_watches_in};
 use crate::fault::Unasked;
 use crate::limits::MAX_PATHS;
 use crate::nodes::part_of;
-use crate::tick::TickLength;
+use crate::terms::Terms;
 use crate::words::{path_in_bytes, path_of};
 use std::alloc::Global;
 use zalloc::Memory;
@@ -26,15 +26,15 @@ use zpath::Path;
 /// that is never done, and none after it.
 pub(crate) fn parts_of(
     alloc: Global,
-    tick: TickLength,
+    terms: Terms,
     session: SessionId,
     parts: &[zjute::PartRequest],
 ) -> Result<Vec<Part>, Memory>
-    ensures { IfOk result (λ read. read.items ≡ parts_in tick session parts.now) }
+    ensures { IfOk result (λ read. read.items ≡ parts_in terms session parts.now) }
 {
     let mut read = Vec::new(alloc);
     for part in parts {
-        match part_of(alloc, tick, session, part) {
+        match part_of(alloc, terms, session, part) {
             Ok(part) => read.push(part)?,
             Err(Unasked::Refused(_)) => {
                 read.push(never_done())?;

@@ -4,7 +4,7 @@ ghost use Rattle.std.specs.Prelude.{◌≡◌, ◌<◌, ◌≤◌, [], ◌∷◌
 ghost use Rattle.zrequests.specs.Asking.{IsUnasked};
 ghost use Rattle.zrequests.specs.Requests.{calls_in, reads_in, create_in, timed_create_in, create_alone};
 ghost use Rattle.zrequests.specs.Requests.{delete_alone, set_alone, check_alone, one_of_parts};
-ghost use Rattle.zrequests.specs.Requests.{set_acl_in, other_in};
+ghost use Rattle.zrequests.specs.Requests.{set_acl_alone, other_in};
 ghost use Rattle.zrequests.specs.Requests.{multi_in, look_alone, children_in, looks_in};
 ghost use Rattle.zrequests.specs.Requests.{all_watches_in, numbered_in, watches_in, auth_in, sync_in};
 ghost use Rattle.zjute.specs.WatchNumbers.{mode_of, type_of};
@@ -15,13 +15,13 @@ ghost use Rattle.zcalls.specs.declared.call.Query.TheVariants.{GetData, Exists, 
 use crate::calls::Calls;
 use crate::fault::Unasked;
 use crate::lists::{all_watches_of, looks_of, parts_of, watches_of};
-use crate::nodes::{check_of, create_of, delete_of, set_of, timed_create_of};
-use crate::tick::TickLength;
-use crate::words::{is_open_acl, is_text_of, path_of};
+use crate::nodes::{check_of, create_of, delete_of, set_acl_of, set_of, timed_create_of};
+use crate::terms::Terms;
+use crate::words::{is_text_of, path_of};
 use std::alloc::Global;
-use zcalls::{Call, MAX_PARTS, Multi, Part, Query, SessionId, Update};
+use zcalls::{Call, Multi, Part, Query, SessionId, Update};
 use zjute::{
-    AddMode, AddWatch, Asked, AtVersion, Auth, Bytes, Code, CreateTtl, Looks, Parts, SetAcl,
+    AddMode, AddWatch, Asked, AtVersion, Auth, Bytes, Code, CreateTtl, Looks, Parts, SetAclRequest,
     SetDataRequest, SetWatches, SetWatches2, WatchType, WatchesAt,
 };
 use zpath::Path;
@@ -32,31 +32,32 @@ use zpath::Path;
 /// A request that is refused at once, or that runs out of memory, makes no call.
 pub fn calls_of(
     alloc: Global,
-    tick: TickLength,
+    terms: Terms,
     session: SessionId,
     asked: &Asked,
 ) -> Result<Calls, Unasked>
-    ensures found { IfOk result (λ calls. calls_in tick session asked.now ≡ Ok calls) }
-    ensures fault { IfErr result (IsUnasked (calls_in tick session asked.now)) }
+    ensures found { IfOk result (λ calls. calls_in terms session asked.now ≡ Ok calls) }
+    ensures fault { IfErr result (IsUnasked (calls_in terms session asked.now)) }
 {
     match asked {
         Asked::Create(create) | Asked::Create2(create) | Asked::CreateContainer(create) => {
-            one_create(alloc, session, create)
+            one_create(alloc, terms, session, create)
         }
-        Asked::CreateTtl(timed) => one_timed_create(alloc, tick, timed),
+        Asked::CreateTtl(timed) => one_timed_create(alloc, terms, timed),
         Asked::Delete(at) => delete(alloc, at),
-        Asked::SetData(set) => set_data(alloc, set),
-        Asked::Check(at) => check(alloc, at),
-        Asked::Multi(parts) => multi(alloc, tick, session, parts),
+        Asked::SetData(set) => set_data(alloc, terms, set),
+        Asked::SetAcl(set) => set_acl(alloc, set),
+        Asked::Check(at) => check(alloc, terms, at),
+        Asked::Multi(parts) => multi(alloc, terms, session, parts),
         Asked::CloseSession => close(alloc, session),
-        _ => reads(alloc, asked),
+        _ => reads(alloc, terms, asked),
     }
 }
 
 // Reads a request that changes nothing.
-fn reads(alloc: Global, asked: &Asked) -> Result<Calls, Unasked>
-    ensures found { IfOk result (λ calls. reads_in asked.now ≡ Ok calls) }
-    ensures fault { IfErr result (IsUnasked (reads_in asked.now)) }
+fn reads(alloc: Global, terms: Terms, asked: &Asked) -> Result<Calls, Unasked>
+    ensures found { IfOk result (λ calls. reads_in terms asked.now ≡ Ok calls) }
+    ensures fault { IfErr result (IsUnasked (reads_in terms asked.now)) }
 {
     match asked {
         Asked::Exists(look) => exists(alloc, &look.path),
@@ -64,14 +65,13 @@ fn reads(alloc: Global, asked: &Asked) -> Result<Calls, Unasked>
         Asked::GetChildren(look) => get_children(alloc, &look.path),
         Asked::GetChildren2(look) => get_children2(alloc, &look.path),
         Asked::GetAcl(path) => exists(alloc, path),
-        Asked::MultiRead(looks) => multi_read(alloc, looks),
+        Asked::MultiRead(looks) => multi_read(alloc, terms, looks),
         Asked::SetWatches(set) => set_watches(alloc, set),
         Asked::SetWatches2(set) => set_watches_2(alloc, set),
         Asked::CheckWatches(at) | Asked::RemoveWatches(at) => watches_at(alloc, at),
         Asked::AddWatch(add) => add_watch(alloc, add),
         Asked::Sync(path) => sync(alloc, path),
         Asked::Auth(auth) => say_who(alloc, auth),
-        Asked::SetAcl(set) => set_acl(alloc, set),
         Asked::Other(number, _) => other(*number),
         _ => Ok(Calls::none(alloc)),
     }
@@ -88,24 +88,25 @@ fn one(alloc: Global, call: Call) -> Result<Calls, Unasked>
 // Reads a create.
 fn one_create(
     alloc: Global,
+    terms: Terms,
     session: SessionId,
     create: &zjute::CreateRequest,
 ) -> Result<Calls, Unasked>
     ensures found { IfOk result
-        (λ calls. create_alone (create_in session create.now) ≡ Ok calls) }
-    ensures fault { IfErr result (IsUnasked (create_alone (create_in session create.now))) }
+        (λ calls. create_alone (create_in terms session create.now) ≡ Ok calls) }
+    ensures fault { IfErr result (IsUnasked (create_alone (create_in terms session create.now))) }
 {
-    let read = create_of(alloc, session, create)?;
+    let read = create_of(alloc, terms, session, create)?;
     one(alloc, Call::Update(Update::Create(read)))
 }
 
 // Reads a create with a TTL.
-fn one_timed_create(alloc: Global, tick: TickLength, timed: &CreateTtl) -> Result<Calls, Unasked>
+fn one_timed_create(alloc: Global, terms: Terms, timed: &CreateTtl) -> Result<Calls, Unasked>
     ensures found { IfOk result
-        (λ calls. create_alone (timed_create_in tick timed.now) ≡ Ok calls) }
-    ensures fault { IfErr result (IsUnasked (create_alone (timed_create_in tick timed.now))) }
+        (λ calls. create_alone (timed_create_in terms timed.now) ≡ Ok calls) }
+    ensures fault { IfErr result (IsUnasked (create_alone (timed_create_in terms timed.now))) }
 {
-    let read = timed_create_of(alloc, tick, timed)?;
+    let read = timed_create_of(alloc, terms, timed)?;
     one(alloc, Call::Update(Update::Create(read)))
 }
 
@@ -119,57 +120,61 @@ fn delete(alloc: Global, at: &AtVersion) -> Result<Calls, Unasked>
 }
 
 // Reads a set.
-fn set_data(alloc: Global, set: &SetDataRequest) -> Result<Calls, Unasked>
-    ensures found { IfOk result (λ calls. set_alone set.now ≡ Ok calls) }
-    ensures fault { IfErr result (IsUnasked (set_alone set.now)) }
+fn set_data(alloc: Global, terms: Terms, set: &SetDataRequest) -> Result<Calls, Unasked>
+    ensures found { IfOk result (λ calls. set_alone terms set.now ≡ Ok calls) }
+    ensures fault { IfErr result (IsUnasked (set_alone terms set.now)) }
 {
-    let read = set_of(alloc, set)?;
+    let read = set_of(alloc, terms, set)?;
     one(alloc, Call::Update(Update::SetData(read)))
 }
 
+// Reads a write of an ACL.
+fn set_acl(alloc: Global, set: &SetAclRequest) -> Result<Calls, Unasked>
+    ensures found { IfOk result (λ calls. set_acl_alone set.now ≡ Ok calls) }
+    ensures fault { IfErr result (IsUnasked (set_acl_alone set.now)) }
+{
+    let read = set_acl_of(alloc, set)?;
+    one(alloc, Call::Update(Update::SetAcl(read)))
+}
+
 // Reads a check: a multi of one part.
-fn check(alloc: Global, at: &AtVersion) -> Result<Calls, Unasked>
+fn check(alloc: Global, terms: Terms, at: &AtVersion) -> Result<Calls, Unasked>
     ensures found { IfOk result (λ calls. check_alone at.now ≡ Ok calls) }
     ensures fault { IfErr result (IsUnasked (check_alone at.now)) }
 {
     let read = check_of(alloc, at)?;
     let mut parts = Vec::new(alloc);
     parts.push(Part::Check(read))?;
-    one_multi(alloc, parts)
+    one_multi(alloc, terms, parts)
 }
 
-// Returns a multi of these parts, which are 1 to 64.
-fn one_multi(alloc: Global, parts: Vec<Part>) -> Result<Calls, Unasked>
+// Returns a multi of these parts, within the terms.
+fn one_multi(alloc: Global, terms: Terms, parts: Vec<Part>) -> Result<Calls, Unasked>
     requires some { 0 < length parts.items }
-    requires few { length parts.items ≤ MAX_PARTS }
+    requires few { length parts.items ≤ terms.parts }
     ensures found { IfOk result (λ calls. one_of_parts parts.items ≡ Ok calls) }
     ensures fault { IfErr result (λ fault. fault ≡ Unasked.Memory) }
 {
-    let Ok(multi) = Multi::new(parts) else {
+    let Ok(multi) = Multi::within(parts, terms.parts()) else {
         unreachable!();
     };
     one(alloc, Call::Update(Update::Multi(multi)))
 }
 
 // Reads a multi.
-fn multi(
-    alloc: Global,
-    tick: TickLength,
-    session: SessionId,
-    parts: &Parts,
-) -> Result<Calls, Unasked>
-    ensures found { IfOk result (λ calls. multi_in tick session parts.now ≡ Ok calls) }
-    ensures fault { IfErr result (IsUnasked (multi_in tick session parts.now)) }
+fn multi(alloc: Global, terms: Terms, session: SessionId, parts: &Parts) -> Result<Calls, Unasked>
+    ensures found { IfOk result (λ calls. multi_in terms session parts.now ≡ Ok calls) }
+    ensures fault { IfErr result (IsUnasked (multi_in terms session parts.now)) }
 {
     let parts = parts.as_slice();
     if parts.is_empty() {
         return Ok(Calls::none(alloc));
     }
-    if parts.len() > MAX_PARTS {
+    if parts.len() > terms.parts() {
         return Err(Unasked::Refused(Code::BadArguments));
     }
-    let read = parts_of(alloc, tick, session, parts)?;
-    one_multi(alloc, read)
+    let read = parts_of(alloc, terms, session, parts)?;
+    one_multi(alloc, terms, read)
 }
 
 // Reads an exists.
@@ -220,12 +225,12 @@ fn names_and_stat(alloc: Global, path: Path) -> Result<Calls, Unasked>
 }
 
 // Reads a multiRead.
-fn multi_read(alloc: Global, looks: &Looks) -> Result<Calls, Unasked>
-    ensures found { IfOk result (λ calls. looks_in looks.now ≡ Ok calls) }
-    ensures fault { IfErr result (IsUnasked (looks_in looks.now)) }
+fn multi_read(alloc: Global, terms: Terms, looks: &Looks) -> Result<Calls, Unasked>
+    ensures found { IfOk result (λ calls. looks_in terms looks.now ≡ Ok calls) }
+    ensures fault { IfErr result (IsUnasked (looks_in terms looks.now)) }
 {
     let looks = looks.as_slice();
-    if looks.len() > MAX_PARTS {
+    if looks.len() > terms.parts() {
         return Err(Unasked::Refused(Code::BadArguments));
     }
     Ok(Calls::new(looks_of(alloc, looks)?))
@@ -269,18 +274,6 @@ fn add_watch(alloc: Global, add: &AddWatch) -> Result<Calls, Unasked>
         Some(_) => exists(alloc, &add.path),
         None => Err(Unasked::Refused(Code::MarshallingError)),
     }
-}
-
-// Reads a write of an ACL.
-fn set_acl(alloc: Global, set: &SetAcl) -> Result<Calls, Unasked>
-    ensures found { IfOk result (λ calls. set_acl_in set.now ≡ Ok calls) }
-    ensures fault { IfErr result (IsUnasked (set_acl_in set.now)) }
-{
-    let path = path_of(alloc, &set.path)?;
-    if !is_open_acl(&set.acls) {
-        return Err(Unasked::Refused(Code::InvalidAcl));
-    }
-    one(alloc, Call::Query(Query::Exists(path)))
 }
 
 // Refuses another request.

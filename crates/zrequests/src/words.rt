@@ -5,6 +5,7 @@ ghost use Rattle.zrequests.specs.Asking.{IsUnasked, path_in, data_in, version_in
 
 use crate::fault::Unasked;
 use crate::limits::{ALL_PERMISSIONS, NO_VERSION};
+use crate::terms::Terms;
 use crate::tick::TickLength;
 use std::alloc::Global;
 use std::str;
@@ -40,16 +41,16 @@ pub(crate) fn path_in_bytes(alloc: Global, bytes: &[u8]) -> Result<Path, Unasked
     }
 }
 
-/// Reads data.
-pub(crate) fn data_of(alloc: Global, bytes: &Option<Bytes>) -> Result<Data, Unasked>
-    ensures found { IfOk result (λ read. data_in bytes.now ≡ Ok read) }
-    ensures fault { IfErr result (IsUnasked (data_in bytes.now)) }
+/// Reads data, of at most the size of the terms.
+pub(crate) fn data_of(alloc: Global, terms: Terms, bytes: &Option<Bytes>) -> Result<Data, Unasked>
+    ensures found { IfOk result (λ read. data_in terms bytes.now ≡ Ok read) }
+    ensures fault { IfErr result (IsUnasked (data_in terms bytes.now)) }
 {
     let Some(bytes) = bytes else {
         return Ok(Data::empty());
     };
     let bytes = Vec::from_slice(alloc, bytes.as_slice())?;
-    match Data::new(alloc, bytes) {
+    match Data::within(alloc, bytes, terms.data()) {
         Ok(read) => Ok(read),
         Err(DataFault::TooLong) => Err(Unasked::Refused(Code::BadArguments)),
         Err(DataFault::Memory) => Err(Unasked::Memory),
@@ -77,17 +78,15 @@ pub(crate) fn is_text_of(text: &[u8], string: &Option<Bytes>) -> bool
     }
 }
 
-/// Returns whether the list is the open ACL. A null list isn't.
+/// Returns whether the list is the open ACL, named once or more. A null or empty list isn't.
 pub(crate) fn is_open_acl(acls: &Option<Acls>) -> bool
     ensures { result ≡ has_open_acl acls.now }
 {
     let Some(acls) = acls else {
         return false;
     };
-    match acls.as_slice() {
-        [acl] => is_open_entry(acl),
-        _ => false,
-    }
+    let acls = acls.as_slice();
+    !acls.is_empty() && acls.iter().all(|acl| is_open_entry(acl))
 }
 
 // Returns whether this entry allows anyone to do anything.

@@ -13,7 +13,7 @@ use Rattle.zjute.specs.declared.request.Asked.TheVariants as asked
 use Rattle.zresponses.specs.declared.clock.Clock.{Clock}
 use Rattle.zresponses.specs.declared.clock.Now.{Now}
 use Rattle.zresponses.specs.declared.answer.Answer.{Answer}
-use Rattle.zresponses.specs.Answers.{done, failed, answer_of, made_answer, acl_answer, set_acl_answer, children_answer}
+use Rattle.zresponses.specs.Answers.{done, failed, answer_of, made_answer, acl_answer, children_answer}
 use Rattle.zresponses.specs.Results.{multi_answer, looks_answer}
 
 -- the answer to a request that was done
@@ -69,7 +69,6 @@ answer_in clock now (asked.Multi parts) calls replies = multi_by clock now parts
 answer_in clock now (asked.MultiRead looks) calls replies = looks_answer clock replies
 answer_in clock now (asked.GetChildren2 look) calls replies = by_two (children_answer clock) replies
 answer_in clock now (asked.GetAcl path) calls replies = by_first (acl_answer clock) replies
-answer_in clock now (asked.SetAcl set) calls replies = by_first (set_acl_answer clock set.version) replies
 answer_in clock now (asked.Sync path) calls replies = sync_by path
 answer_in clock now (asked.SetWatches set) calls replies = was_done
 answer_in clock now (asked.SetWatches2 set) calls replies = was_done

@@ -1,7 +1,6 @@
 -- The answer for one reply of the service: a code, and the body after the header. The source is
 -- zookeeper.jute (`ReplyHeader`, and the responses), and ZooKeeper's `KeeperException.Code`.
-use Rattle.std.specs.Prelude.{ℤ, pos, negsuc, ◌||◌, ◌∷◌, [], List, length, nat_lt, codes, Some, if◌then◌else◌}
-use Rattle.std.specs.Ordering.{int_eq}
+use Rattle.std.specs.Prelude.{ℤ, ◌∷◌, [], List, length, nat_lt, codes, Some, if◌then◌else◌}
 use Rattle.zpath.specs.Grammar.{text_of}
 use Rattle.ztree.specs.Tree.{Name}
 use Rattle.ztree.specs.declared.node.Stat.{Stat}
@@ -66,13 +65,6 @@ open_acls = acls_for_all ALL_PERMISSIONS
 abbrev pub acl_answer : Clock → Reply → Answer
 acl_answer clock (reply.Exists stat) = done (body.AclsStat open_acls (stat_reported clock stat))
 acl_answer clock reported = answer_of clock reported
-
--- the answer to a write of the open ACL at this version, from the node's stat. An ACL's version is
--- always 0, and writing it isn't implemented
-abbrev pub set_acl_answer : Clock → ℤ → Reply → Answer
-set_acl_answer clock version (reply.Exists stat) =
-    failed (if int_eq version (negsuc 0) || int_eq version (pos 0) then code.Unimplemented else code.BadVersion)
-set_acl_answer clock version reported = answer_of clock reported
 
 -- names and a stat
 abbrev pub names_stat_answer : Clock → List Name → Stat → Answer

@@ -23,6 +23,7 @@ use Rattle.zjute.specs.declared.reply.PartResult.TheVariants as result_of
 use Rattle.zjute.specs.declared.reply.Body.TheVariants as body
 use Rattle.zrequests.specs.Codes.{code_of}
 use Rattle.zrequests.specs.Requests.{refused_in}
+use Rattle.zrequests.specs.Terms.{Terms}
 use Rattle.zresponses.specs.declared.clock.Clock.{Clock}
 use Rattle.zresponses.specs.declared.clock.Now.{Now}
 use Rattle.zresponses.specs.declared.answer.Answer.{Answer}
@@ -35,11 +36,11 @@ refused_results count number why =
     replicate (number - 1) (result_of.Error code.Ok)
     ++ result_of.Error why ∷ replicate (count - number) (result_of.Error code.RuntimeInconsistency)
 
--- the code of the part that the tree refused: that with which it is refused at once, if it is, and
--- else the tree's; `tick` has the milliseconds of a tick
-abbrev pub part_code : ℕ → List AskedPart → ℕ → Refusal → Code
-part_code tick asked number refusal =
-    unwrap_or (option_and_then (refused_in tick) (slice_get asked (number - 1))) (code_of refusal)
+-- the code of the part that the tree refused: that with which it is refused at once by these terms,
+-- if it is, and else the tree's
+abbrev pub part_code : Terms → List AskedPart → ℕ → Refusal → Code
+part_code terms asked number refusal =
+    unwrap_or (option_and_then (refused_in terms) (slice_get asked (number - 1))) (code_of refusal)
 
 -- a node that a part created; with its stat, if the part asked for it, has a TTL, or creates a
 -- container
@@ -67,7 +68,7 @@ part_results clock now more parts replies = []
 abbrev pub multi_answer : Clock → Now → List AskedPart → List Part → Reply → Answer
 multi_answer clock now asked parts (reply.Multi replies) = done (body.Results (part_results clock now asked parts replies))
 multi_answer clock now asked parts (reply.MultiRefused number refusal) =
-    done (body.Results (refused_results (length asked) number (part_code clock.tick asked number refusal)))
+    done (body.Results (refused_results (length asked) number (part_code clock.terms asked number refusal)))
 multi_answer clock now asked parts reported = answer_of clock reported
 
 -- names as a result; more than a frame can hold give an error

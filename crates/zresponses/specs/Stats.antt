@@ -1,7 +1,7 @@
 -- The stat in an answer. The source is `Stat` of zookeeper.jute and the ZooKeeper Programmer's
 -- Guide, "ZooKeeper Stat Structure". Times are counted in ticks from the service's start and
 -- returned in milliseconds, and zxids begin at a base: that is this project's profile.
-use Rattle.std.specs.Prelude.{ℕ, ◌+◌, ◌*◌, ◌%◌, ◌^◌, ℤ, pos}
+use Rattle.std.specs.Prelude.{ℕ, ◌+◌, ◌*◌, ◌%◌, ◌^◌, ℤ}
 use Rattle.std.specs.Int.{w32, w64, cast_signed}
 use Rattle.ztree.specs.Tree.{new_node, stat_with}
 use Rattle.ztree.specs.declared.node.Stat.{Stat}
@@ -25,10 +25,10 @@ told base zxid = long_of (base + zxid)
 
 -- the time of a tick, in milliseconds since 1970
 abbrev pub millis_at : Clock → ℕ → ℕ
-millis_at clock ticks = clock.started + ticks * clock.tick
+millis_at clock ticks = clock.started + ticks * clock.terms.tick
 
--- the stat for a client. No node has an ACL of its own, so `aversion` is 0. The owner of a container
--- is a mark of the tree, its highest bit, and clients are told none
+-- the stat for a client. The owner of a container is a mark of the tree, its highest bit, and
+-- clients are told none
 abbrev pub stat_reported : Clock → Stat → ReportedStat
 stat_reported clock s = record {
   czxid = told clock.base s.czxid;
@@ -37,7 +37,7 @@ stat_reported clock s = record {
   mtime = long_of (millis_at clock s.mtime);
   version = int_of s.version;
   cversion = int_of s.cversion;
-  aversion = pos 0;
+  aversion = int_of s.aversion;
   ephemeral_owner = long_of (s.owner % 2 ^ 63);
   data_length = int_of s.length;
   num_children = int_of s.children;

@@ -6,7 +6,7 @@ ghost use Rattle.zresponses.specs.Answering.{answer_in, was_lost, by_first, by_t
 ghost use Rattle.zresponses.specs.Answering.{is_anyone, sync_by};
 
 use crate::answer::Answer;
-use crate::answers::{acl_answer, answer_of, children_answer, made_answer, set_acl_answer};
+use crate::answers::{acl_answer, answer_of, children_answer, made_answer};
 use crate::clock::{Clock, Now};
 use crate::parts::{looks_answer, multi_answer};
 use crate::texts::bytes_of;
@@ -36,7 +36,6 @@ pub fn answer_to(
         Asked::MultiRead(_) => looks_answer(alloc, clock, replies),
         Asked::GetChildren2(_) => children(alloc, clock, replies),
         Asked::GetAcl(_) => acl(alloc, clock, replies),
-        Asked::SetAcl(set) => set_acl(alloc, clock, set.version, replies),
         Asked::Sync(path) => sync(alloc, path),
         Asked::SetWatches(_)
         | Asked::SetWatches2(_)
@@ -127,17 +126,6 @@ fn acl(alloc: Global, clock: &Clock, replies: &[Reply]) -> Result<Answer, Memory
 {
     match replies {
         [reply, ..] => acl_answer(alloc, clock, reply),
-        [] => Ok(lost()),
-    }
-}
-
-// Returns the answer to a write of an ACL.
-fn set_acl(alloc: Global, clock: &Clock, version: i32, replies: &[Reply]) -> Result<Answer, Memory>
-    ensures { IfOk result (λ reported. reported
-        ≡ by_first (of_one.set_acl_answer clock.now version) replies.now) }
-{
-    match replies {
-        [reply, ..] => set_acl_answer(alloc, clock, version, reply),
         [] => Ok(lost()),
     }
 }

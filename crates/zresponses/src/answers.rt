@@ -97,23 +97,6 @@ pub(crate) fn acl_answer(alloc: Global, clock: &Clock, reply: &Reply) -> Result<
     Ok(Answer::done(Body::AclsStat(acls, stat_reported(clock, stat))))
 }
 
-/// Returns the answer to a write of the open ACL at this version.
-pub(crate) fn set_acl_answer(
-    alloc: Global,
-    clock: &Clock,
-    version: i32,
-    reply: &Reply,
-) -> Result<Answer, Memory>
-    ensures { IfOk result
-        (λ answer. answer ≡ table.set_acl_answer clock.now version reply.now) }
-{
-    match (reply, version) {
-        (Reply::Exists(_), -1 | 0) => Ok(Answer::failed(Code::Unimplemented)),
-        (Reply::Exists(_), _) => Ok(Answer::failed(Code::BadVersion)),
-        _ => answer_of(alloc, clock, reply),
-    }
-}
-
 /// Returns an ACL of anyone with these permissions.
 pub(crate) fn acls_for_all(alloc: Global, perms: i32) -> Result<Acls, Memory>
     ensures { IfOk result (λ acls. acls ≡ table.acls_for_all perms) }

@@ -1,4 +1,4 @@
-//! The clock, the base of zxids, and the last zxid and tick of a tree.
+//! The clock with the terms of the server, the base of zxids, and the last zxid and tick of a tree.
 //!
 //! # Why
 //!
@@ -6,14 +6,15 @@
 //! changes than the tree has is refused, as in ZooKeeper. So each start has a greater base, and
 //! clients of an earlier one are told that their session has expired.
 
-use zrequests::TickLength;
+use zrequests::Terms;
 use ztree::Zxid;
 
-/// How ticks become milliseconds since 1970, and zxids those that clients are told.
+/// The terms of the server, how ticks become milliseconds since 1970, and how zxids become those
+/// that clients are told.
 #[derive(Clone, Copy, Debug, PartialEq, Eq)]
 pub struct Clock {
-    /// The length of a tick.
-    pub tick: TickLength,
+    /// What the server accepts in requests, and the length of a tick.
+    pub terms: Terms,
     /// When the service was started, in milliseconds since 1970.
     pub started: u64,
     /// What is added to a zxid of the tree when it is told.

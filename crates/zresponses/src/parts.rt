@@ -15,7 +15,7 @@ use std::alloc::Global;
 use zalloc::Memory;
 use zcalls::{Part, PartReply, Refusal, Reply};
 use zjute::{Body, Code, PartResult, Results};
-use zrequests::{TickLength, code_of, refused_part};
+use zrequests::{Terms, code_of, refused_part};
 
 /// Returns the answer to a multi.
 pub(crate) fn multi_answer(
@@ -35,7 +35,7 @@ pub(crate) fn multi_answer(
             Ok(Answer::done(Body::Results(Results::new(results))))
         }
         Reply::MultiRefused(number, refusal) => {
-            let code = part_code(alloc, clock.tick, asked, *number, *refusal)?;
+            let code = part_code(alloc, clock.terms, asked, *number, *refusal)?;
             let results = refused(alloc, asked.len(), *number, code)?;
             Ok(Answer::done(Body::Results(Results::new(results))))
         }
@@ -46,17 +46,17 @@ pub(crate) fn multi_answer(
 // Returns the code of the part that the tree refused.
 fn part_code(
     alloc: Global,
-    tick: TickLength,
+    terms: Terms,
     asked: &[zjute::PartRequest],
     number: usize,
     refusal: Refusal,
 ) -> Result<Code, Memory>
-    ensures { IfOk result (λ code. code ≡ part_code tick asked.now number refusal) }
+    ensures { IfOk result (λ code. code ≡ part_code terms asked.now number refusal) }
 {
     let Some(part) = asked.get(number.saturating_sub(1)) else {
         return Ok(code_of(refusal));
     };
-    match refused_part(alloc, tick, part)? {
+    match refused_part(alloc, terms, part)? {
         Some(code) => Ok(code),
         None => Ok(code_of(refusal)),
     }

@@ -21,6 +21,7 @@ pub fn made_stat(at: &Now, create: &Create) -> Stat
         mtime: at.time,
         version: 0,
         cversion: 0,
+        aversion: 0,
         owner: term.shown_owner(create.kind.lifetime.owner()),
         length: create.bytes.as_slice().len() as u64,
         children: 0,
@@ -39,7 +40,7 @@ pub fn stat_reported(clock: &Clock, stat: &Stat) -> zjute::StatRecord
         mtime: time_of(clock, stat.mtime),
         version: int_of(stat.version),
         cversion: int_of(stat.cversion),
-        aversion: 0,
+        aversion: int_of(stat.aversion),
         ephemeral_owner: long_of(stat.owner % (1 << 63)),
         data_length: int_of(stat.length),
         num_children: int_of(stat.children),
@@ -51,7 +52,7 @@ pub fn stat_reported(clock: &Clock, stat: &Stat) -> zjute::StatRecord
 fn time_of(clock: &Clock, ticks: u64) -> i64
     ensures { result ≡ reported.long_of (reported.millis_at clock.now ticks) }
 {
-    let since = ticks.wrapping_mul(u64::from(clock.tick.millis()));
+    let since = ticks.wrapping_mul(u64::from(clock.terms.tick().millis()));
     clock.started.wrapping_add(since).cast_signed()
 }
 

@@ -74,6 +74,7 @@ fn stat(made: u64) -> Stat {
         mtime: 0,
         version: 0,
         cversion: 0,
+        aversion: 0,
         owner: 0,
         length: 0,
         children: 0,

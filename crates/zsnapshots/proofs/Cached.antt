@@ -67,6 +67,7 @@ module _ (h : Header) (u : MachineState) (sessions nodes replies : ℕ) (session
           last = is.last;
           time = is.time;
           zxid = is.zxid;
+          limits = is.limits;
           dated = is.dated;
           root = is.root;
           sessions_left = omega (arith, long, left, some);
@@ -110,6 +111,7 @@ module _ (h : Header) (u : MachineState) (sessions nodes replies : ℕ) (session
           last = is.last;
           time = is.time;
           zxid = is.zxid;
+          limits = is.limits;
           dated = all_insert (IsDated u.service.plain.zxid u.service.plain.time) u.service.plain.nodes p n is.dated dated;
           root = (is.root.0, is.root.1 ++ (p, n) ∷ [], all);
           sessions_left = is.sessions_left;
@@ -146,6 +148,7 @@ module _ (h : Header) (u : MachineState) (sessions nodes replies : ℕ) (session
           last = is.last;
           time = is.time;
           zxid = is.zxid;
+          limits = is.limits;
           dated = is.dated;
           root = is.root;
           sessions_left = is.sessions_left;

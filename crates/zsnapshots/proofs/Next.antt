@@ -267,22 +267,24 @@ module _ (w s : MachineState) (readable : IsReadable w) where
   -- it is in order, and can be put
   pub session_next : (e : ℕ × Session) (more : List (ℕ × Session)) → sessions_of w ≡ sessions_of s ++ e ∷ more →
       s.service.plain.time ≡ w.service.plain.time → s.service.plain.zxid ≡ w.service.plain.zxid →
+      s.service.plain.limits ≡ w.service.plain.limits →
       IsAbove nat_cmp (sessions_of s) e.0 × CanPutGranted s.service.plain e.0 e.1
-  session_next e more is time zxid = (
+  session_next e more is time zxid limits = (
     next_above nat_cmp (sessions_of s) more e (subst (λ es. T (is_sorted nat_cmp es)) is (entries_sorted w.service.plain.sessions)),
-    granted_can w.service.plain readable.settled s.service.plain e more time zxid
+    granted_can w.service.plain readable.settled s.service.plain e more time zxid limits
         (left_at nat_cmp_total nat_cmp-IsAntisymmetric w.service.plain.sessions s.service.plain.sessions (e ∷ more) is),
   )
 
   pub node_next : (e : Path × Node) (more : List (Path × Node)) → nodes_of w ≡ nodes_of s ++ e ∷ more → sessions_of w ≡ sessions_of s → HasRoot s →
       s.service.plain.time ≡ w.service.plain.time → s.service.plain.zxid ≡ w.service.plain.zxid →
+      s.service.plain.limits ≡ w.service.plain.limits →
       IsAbove path_cmp (nodes_of s) e.0 × CanPutNode s.service.plain e.0 e.1
-  node_next e more is same root time zxid =
+  node_next e more is same root time zxid limits =
       let there : has_node s.service.plain.nodes [] ≡ true =
       ap (λ o. is_some o) (finite.get-entries s.service.plain.nodes []) ∙ ap (λ es. is_some (finite.find path_cmp [] es)) root.2 in (
         next_above path_cmp (nodes_of s) more e (subst (λ es. T (is_sorted path_cmp es)) is (entries_sorted w.service.plain.nodes)),
         bounded_can w.service.plain readable.settled s.service.plain e more
-            (finite.same_entries_map s.service.plain.sessions w.service.plain.sessions (sym same)) time zxid there
+            (finite.same_entries_map s.service.plain.sessions w.service.plain.sessions (sym same)) time zxid limits there
             (left_at paths_total same_path w.service.plain.nodes s.service.plain.nodes (e ∷ more) is),
       )
 

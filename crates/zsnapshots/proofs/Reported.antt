@@ -14,6 +14,7 @@ use Rattle.zcalls.specs.Cached.{Cached}
 use Rattle.zstore.specs.declared.restore_fault.RestoreFault.{RestoreFault}
 use Rattle.zstore.specs.declared.restore_fault.RestoreFault.TheVariants as restore
 use Rattle.zops.specs.Machine.{MachineState}
+use Rattle.zwire.specs.declared.limits.TheConstants.{MAX_FRAME}
 use Rattle.zwire.specs.declared.fault.FrameFault.{FrameFault}
 use Rattle.zwire.specs.declared.fault.FrameFault.TheVariants as frame
 use Rattle.zwire.specs.Frames.{IsFaultOf}
@@ -36,7 +37,7 @@ use Rattle.zsnapshots.proofs.Next.{node_next, reply_next, same_header, same_body
 
 module _ {A : Type 0} (c : Form A) (is : IsForm c) where
   pub framed_is : IsForm (row c)
-  framed_is = is_framed 8388608 c (omega arith) is
+  framed_is = is_framed MAX_FRAME c (omega arith) is
 
   -- what was found is in front
   pub read_is : (x : A) (rest bytes : List ℕ) → (row c).Fits x → bytes ≡ (row c).spell x ++ rest → (row c).read bytes ≡ Ok (x, rest)
@@ -137,6 +138,9 @@ module _ (h : Header) (u : MachineState) (sessions nodes replies : ℕ) (session
     zxid : u.service.plain.zxid ≡ w.service.plain.zxid
     zxid = is.zxid ∙ ap (λ (h : Header). h.zxid) (sym head)
 
+    limits : u.service.plain.limits ≡ w.service.plain.limits
+    limits = is.limits ∙ ap (λ (h : Header). h.limits) (sym head)
+
     fits : Fits x
     fits = all_at (rows_so_far (view h u)) x after (rows_of w) readable.fit rows
 
@@ -181,7 +185,7 @@ module _ (h : Header) (u : MachineState) (sessions nodes replies : ℕ) (session
           let all = ap (λ (h : Header). h.sessions) head in
           let less = ltb-true (length (sessions_of u)) h.sessions wanted in
           let next = next_session w u x after body is.root (is.nodes_wait some) (is.replies_wait (omega (arith, some))) (omega (arith, all, less)) in
-          let can = session_next w u readable next.0 next.1 next.2 time zxid in
+          let can = session_next w u readable next.0 next.1 next.2 time zxid limits in
           let own : IsSessionFault u bytes fault = subst (λ b. either b (IsSessionFault u bytes fault)
           (either (wants_node (view h u)) (IsNodeFault u bytes fault)
           (either (wants_reply (view h u)) (IsReplyFault u bytes fault) (fault ≡ Ended)))) wanted reported in (
@@ -204,7 +208,7 @@ module _ (h : Header) (u : MachineState) (sessions nodes replies : ℕ) (session
           let all = ap (λ (h : Header). h.nodes) head in
           let less = ltb-true (length (below_of u)) h.nodes wanted in
           let next = next_node w u x after body is.root (full_sessions none) (is.replies_wait (omega (arith, some))) (omega (arith, all, less)) in
-          let can = node_next w u readable next.0 next.1 next.2 (same_sessions w u x after body is.root (full_sessions none)) is.root time zxid in
+          let can = node_next w u readable next.0 next.1 next.2 (same_sessions w u x after body is.root (full_sessions none)) is.root time zxid limits in
           let own : IsNodeFault u bytes fault =
           subst (λ b. either b (IsNodeFault u bytes fault) (either (wants_reply (view h u)) (IsReplyFault u bytes fault) (fault ≡ Ended))) wanted
           (subst (λ b. either b (IsSessionFault u bytes fault) (either (wants_node (view h u)) (IsNodeFault u bytes fault)

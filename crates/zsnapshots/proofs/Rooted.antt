@@ -29,7 +29,7 @@ use Rattle.zsnapshots.proofs.Reported.{one_row, only_memory, all_at}
 
 module _ (h : Header) (root : Node) where
   abbrev begun : MachineState
-  begun = rooted_machine root h.time h.zxid h.last
+  begun = rooted_machine root h.time h.zxid h.last h.limits
 
   nodes_is : nodes_of begun ≡ ([], root) ∷ []
   nodes_is = entries-insert paths_total finite.empty [] root ∙ ap (put path_cmp [] root) (entries-empty path_cmp)
@@ -40,11 +40,12 @@ module _ (h : Header) (root : Node) where
   replies_is : replies_of begun ≡ []
   replies_is = entries-empty nat_cmp
 
-  pub root_kept : (path : Path) → path ≡ [] → CanBegin root h.time h.zxid h.last → IsReading h begun h.sessions h.nodes h.replies None path None
+  pub root_kept : (path : Path) → path ≡ [] → CanBegin root h.time h.zxid h.last h.limits → IsReading h begun h.sessions h.nodes h.replies None path None
   root_kept path is can = record {
     last = refl;
     time = refl;
     zxid = refl;
+    limits = refl;
     dated = all_insert (IsDated h.zxid h.time) finite.empty [] root (no_nodes (IsDated h.zxid h.time)) can.dated;
     root = (root, [], nodes_is);
     sessions_left = ap (λ es. length es + h.sessions) sessions_is ∙ zero-add h.sessions;
@@ -86,11 +87,11 @@ module _ (h : Header) (w : MachineState) (x : StateRow) (after : List StateRow) 
       head : (a b : StateRow) (rest more : List StateRow) → a ∷ rest ≡ b ∷ more → a ≡ b
       head a b rest more is = cc
 
-  able : CanBegin own_root h.time h.zxid h.last
+  able : CanBegin own_root h.time h.zxid h.last h.limits
   unfolding own_root
   able =
       let own = restored w.service.plain readable.settled w.applied readable.few in
-      subst (λ (h : Header). CanBegin own.root h.time h.zxid h.last) (same_header w h (x ∷ after) rows) own.can_begin
+      subst (λ (h : Header). CanBegin own.root h.time h.zxid h.last h.limits) (same_header w h (x ∷ after) rows) own.can_begin
 
   root_outcome : {V : Type 0} (bytes rest : List ℕ) → bytes ≡ spelled x ++ rest → (of : V → List ℕ) (new : V → ReadingView) (r : Result V RowFault) →
       IfOk r (λ v. IsRootTaken h (new v) bytes (of v)) → IfErr r (IsRootFault h bytes) →

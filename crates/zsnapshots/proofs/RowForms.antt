@@ -13,17 +13,17 @@ use Rattle.zwire.specs.records.Fields.{path, content, long}
 use Rattle.zwire.proofs.records_lemmas.Fields.{is_path, is_content}
 use Rattle.zwire.specs.declared.limits.TheConstants.{MAX_FRAME}
 use Rattle.zwire.specs.declared.fault.FrameFault.{FrameFault}
-use Rattle.zwire.specs.Fields.{call_number, log_number, client, three, four}
+use Rattle.zwire.specs.Fields.{call_number, log_number, client, three, five}
 use Rattle.zwire.specs.Replies.{reply}
 use Rattle.zwire.specs.Frames.{IsFaultOf}
-use Rattle.zwire.proofs.Fields.{is_call_number, is_log_number, is_client, is_three, is_four}
+use Rattle.zwire.proofs.Fields.{is_call_number, is_log_number, is_client, is_three, is_five}
 use Rattle.zwire.proofs.Replies.{is_reply}
 use Rattle.zwire.proofs.Frames.{is_framed, found_in, only_in, faults_stay, beginning_is_cut}
 use Rattle.ztree.specs.declared.limits.TheConstants.{MAX_TTL}
 use Rattle.ztree.specs.declared.term.Term.{Term}
 use Rattle.ztree.specs.declared.term.Term.TheVariants.{Unlimited, Timed, Container}
 use Rattle.zsnapshots.specs.declared.limits.TheConstants.{CONTAINER}
-use Rattle.zsnapshots.specs.Rows.{clocks, totals, header_text, HasValidTtl, term_number, term_from, term, node, node_text, session, session_text, kept, reply_text, row, IsReadAs}
+use Rattle.zsnapshots.specs.Rows.{clocks, totals, limits, header_text, HasValidTtl, term_number, term_from, term, node, node_text, session, session_text, kept, reply_text, row, IsReadAs}
 use Rattle.zsnapshots.specs.Laws.{AreRows}
 
 is_clocks : IsForm clocks
@@ -32,9 +32,13 @@ is_clocks = is_both log_number (both long long) is_log_number (is_both long long
 is_totals : IsForm totals
 is_totals = is_both (number w32) (both (number w32) (number w32)) is_u32 (is_both (number w32) (number w32) is_u32 is_u32)
 
+is_limits : IsForm limits
+unfolding limits
+is_limits = is_record _ _ _ is_three (λ f. refl) (λ l. refl)
+
 pub is_header : IsForm header_text
 unfolding header_text
-is_header = is_record _ _ _ (is_both clocks totals is_clocks is_totals) (λ f. refl) (λ h. refl)
+is_header = is_record _ _ _ (is_both clocks _ is_clocks (is_both limits totals is_limits is_totals)) (λ f. refl) (λ h. refl)
 
 -- ---- terms
 
@@ -67,7 +71,7 @@ is_term = is_made long term_number term_from HasValidTtl is_u64 (λ n t fits e. 
 
 is_node : IsForm node
 unfolding node
-is_node = is_record _ _ _ (is_both three _ is_three (is_both four _ is_four (is_both (both long long) (both term content) (is_both long long is_u64 is_u64) (is_both term content is_term is_content)))) (λ f. refl) (λ n. refl)
+is_node = is_record _ _ _ (is_both three _ is_three (is_both five _ is_five (is_both (both long long) (both term content) (is_both long long is_u64 is_u64) (is_both term content is_term is_content)))) (λ f. refl) (λ n. refl)
 
 pub is_node_text : IsForm node_text
 unfolding node_text

@@ -1,5 +1,5 @@
 -- No row of a state is long.
-use Rattle.std.proofs.Common.{ℕ, ◌*◌, ◌≤◌, List, [], ◌∷◌, length, length-append, arith}
+use Rattle.std.proofs.Common.{ℕ, ◌+◌, ◌*◌, ◌≤◌, List, [], ◌∷◌, length, length-append, arith}
 use Rattle.std.specs.List.{AllByRecursion, flat_map}
 use Rattle.ztree.specs.declared.node.Node.{Node}
 use Rattle.ztree.specs.declared.node.Stat.{Stat}
@@ -14,18 +14,19 @@ use Rattle.zcalls.specs.declared.reply.PartReply.TheVariants as part
 use Rattle.zcalls.specs.declared.reply.Reply.{Reply}
 use Rattle.zcalls.specs.declared.reply.Reply.TheVariants as reported
 use Rattle.zcalls.specs.Cached.{Cached}
+use Rattle.zcalls.specs.declared.limits.TheConstants.{MOST_PARTS}
 use Rattle.zops.specs.Restored.{IsOfUpdate}
 use Rattle.zwire.specs.records.Fields.{path, content}
 use Rattle.zwire.specs.Fields.{call_number, log_number, client, stat, refusal}
 use Rattle.zwire.specs.Replies.{part_reply, replies, reply}
 use Rattle.zsnapshots.specs.declared.header.Header.{Header}
 use Rattle.zsnapshots.specs.declared.limits.TheConstants.{MAX_ROW}
-use Rattle.zsnapshots.specs.Rows.{header_text, session, session_text, term, node, node_text, kept, reply_text}
+use Rattle.zsnapshots.specs.Rows.{limits, header_text, session, session_text, term, node, node_text, kept, reply_text}
 use Rattle.zsnapshots.specs.Laws.{RowsAreShort}
 use Rattle.zsnapshots.specs.States.StateRow.{OfHeader, OfSession, OfNode, OfReply}
 
 pub header-short : (h : Header) → length (header_text.spell h) ≤ MAX_ROW
-unfolding header_text log_number
+unfolding header_text limits log_number
 header-short h = omega arith
 
 pub session-short : (e : ℕ × Session) → length (session_text.spell e) ≤ MAX_ROW
@@ -36,7 +37,7 @@ path-short : (p : Path) → path.Fits p → length (path.spell p) ≤ 1028
 unfolding path
 path-short p fits = let short = fits.short in omega (arith, short)
 
-stat-short : (s : Stat) → length (stat.spell s) ≤ 80
+stat-short : (s : Stat) → length (stat.spell s) ≤ 88
 unfolding stat
 stat-short s = omega arith
 
@@ -78,7 +79,7 @@ refusal-short Full = omega arith
 refusal-short TooManySessions = omega arith
 refusal-short Exhausted = omega arith
 
-told-short : (r : Reply) → reply.Fits r → IsOfUpdate r → length (reply.spell r) ≤ 66000
+told-short : (r : Reply) → reply.Fits r → IsOfUpdate r → length (reply.spell r) ≤ 1029 * MOST_PARTS + 9
 unfolding reply replies
 told-short (reported.Created p) fits of_update = let short = path-short p fits.1 in omega (arith, short)
 told-short reported.Deleted fits of_update = omega arith

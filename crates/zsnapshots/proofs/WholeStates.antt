@@ -17,7 +17,7 @@ same_state v w is =
     let kept = finite.same_entries_map v.service.kept w.service.kept (sym (body-replies v) ∙ ap (of_kind reply_in) body ∙ body-replies w) in
     λ i. record {
       service = record {
-        plain = record { nodes = nodes i; sessions = sessions i; time = (head i).time; zxid = (head i).zxid };
+        plain = record { nodes = nodes i; sessions = sessions i; time = (head i).time; zxid = (head i).zxid; limits = (head i).limits };
         kept = kept i;
       };
       applied = (head i).last;

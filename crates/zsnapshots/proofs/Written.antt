@@ -158,4 +158,6 @@ row_room keys s n before after are row =
     let few_sessions = are.settled.lawful.few_sessions in
     let few_nodes = are.settled.lawful.few_nodes in
     let few_clients = are.few_clients in
-    omega (arith, left, some, whole, further, rest, root, one, ids, below, less, replies, kept, all_sessions, all_nodes, few_sessions, few_nodes, few_clients)
+    let most_sessions = are.settled.lawful.allowed.few_sessions in
+    let most_nodes = are.settled.lawful.allowed.few_nodes in
+    omega (arith, left, some, whole, further, rest, root, one, ids, below, less, replies, kept, all_sessions, all_nodes, few_sessions, few_nodes, few_clients, most_sessions, most_nodes)

@@ -7,6 +7,7 @@ use Rattle.zcodec.specs.declared.fault.Fault.TheVariants.{Invalid}
 use Rattle.zcodec.specs.Forms.{Form, number, made, both}
 use Rattle.zjute.specs.Shapes.{fields}
 use Rattle.ztree.specs.declared.limits.TheConstants.{MAX_TTL}
+use Rattle.ztree.specs.declared.limits.TreeLimits.{TreeLimits}
 use Rattle.ztree.specs.declared.term.Term.{Term}
 use Rattle.ztree.specs.declared.term.Term.TheVariants.{Unlimited, Timed, Container}
 use Rattle.ztree.specs.Ttls.{IsTtl}
@@ -19,7 +20,7 @@ use Rattle.zwire.specs.records.Fields.{path, content, long}
 use Rattle.zwire.specs.declared.limits.TheConstants.{MAX_FRAME}
 use Rattle.zwire.specs.declared.fault.FrameFault.{FrameFault}
 use Rattle.zwire.specs.declared.fault.FrameFault.TheVariants.{Memory}
-use Rattle.zwire.specs.Fields.{call_number, log_number, client, three, four}
+use Rattle.zwire.specs.Fields.{call_number, log_number, client, three, five}
 use Rattle.zwire.specs.Replies.{reply}
 use Rattle.zwire.specs.Frames.{framed, IsFaultOf}
 use Rattle.zsnapshots.specs.declared.limits.TheConstants.{CONTAINER}
@@ -34,6 +35,14 @@ clocks = both log_number (both long long)
 abbrev pub clocks_of : Header → ℕ × (ℕ × ℕ)
 clocks_of h = (h.last, (h.time, h.zxid))
 
+-- the limits of the tree
+abbrev pub limits_of : TreeLimits → ℕ × (ℕ × ℕ)
+limits_of l = (l.nodes, (l.sessions, l.timeout))
+
+unfoldable pub limits : Form TreeLimits
+limits = fields three limits_of
+    (λ f. record { nodes = f.0; sessions = f.1.0; timeout = f.1.1 })
+
 -- how many rows of each kind follow
 abbrev pub totals : Form (ℕ × (ℕ × ℕ))
 totals = both (number w32) (both (number w32) (number w32))
@@ -41,18 +50,21 @@ totals = both (number w32) (both (number w32) (number w32))
 abbrev pub totals_of : Header → ℕ × (ℕ × ℕ)
 totals_of h = (h.sessions, (h.nodes, h.replies))
 
-abbrev pub header_of : (ℕ × (ℕ × ℕ)) × (ℕ × (ℕ × ℕ)) → Header
+abbrev pub header_of : (ℕ × (ℕ × ℕ)) × (TreeLimits × (ℕ × (ℕ × ℕ))) → Header
 header_of f = record {
   last = f.0.0;
   time = f.0.1.0;
   zxid = f.0.1.1;
-  sessions = f.1.0;
-  nodes = f.1.1.0;
-  replies = f.1.1.1;
+  limits = f.1.0;
+  sessions = f.1.1.0;
+  nodes = f.1.1.1.0;
+  replies = f.1.1.1.1;
 }
 
 unfoldable pub header_text : Form Header
-header_text = fields (both clocks totals) (λ h. (clocks_of h, totals_of h)) header_of
+header_text =
+    fields (both clocks (both limits totals)) (λ h. (clocks_of h, (h.limits, totals_of h)))
+    header_of
 
 -- ---- nodes
 
@@ -60,9 +72,9 @@ header_text = fields (both clocks totals) (λ h. (clocks_of h, totals_of h)) hea
 abbrev pub zxids_of : Node → ℕ × (ℕ × ℕ)
 zxids_of n = (n.czxid, (n.mzxid, n.pzxid))
 
--- ctime, mtime, version, cversion
-abbrev pub counts_of : Node → ℕ × (ℕ × (ℕ × ℕ))
-counts_of n = (n.ctime, (n.mtime, (n.version, n.cversion)))
+-- ctime, mtime, version, cversion, aversion
+abbrev pub counts_of : Node → ℕ × (ℕ × (ℕ × (ℕ × ℕ)))
+counts_of n = (n.ctime, (n.mtime, (n.version, (n.cversion, n.aversion))))
 
 -- owner, seq
 abbrev pub marks_of : Node → ℕ × ℕ
@@ -91,7 +103,8 @@ HasValidTtl Container = Unit {0}
 unfoldable pub term : Form Term
 term = made long term_number term_from HasValidTtl
 
-abbrev pub node_of : (ℕ × (ℕ × ℕ)) × ((ℕ × (ℕ × (ℕ × ℕ))) × ((ℕ × ℕ) × (Term × List ℕ))) → Node
+abbrev pub node_of :
+    (ℕ × (ℕ × ℕ)) × ((ℕ × (ℕ × (ℕ × (ℕ × ℕ)))) × ((ℕ × ℕ) × (Term × List ℕ))) → Node
 node_of f = record {
   czxid = f.0.0;
   mzxid = f.0.1.0;
@@ -99,7 +112,8 @@ node_of f = record {
   ctime = f.1.0.0;
   mtime = f.1.0.1.0;
   version = f.1.0.1.1.0;
-  cversion = f.1.0.1.1.1;
+  cversion = f.1.0.1.1.1.0;
+  aversion = f.1.0.1.1.1.1;
   owner = f.1.1.0.0;
   seq = f.1.1.0.1;
   term = f.1.1.1.0;
@@ -107,7 +121,7 @@ node_of f = record {
 }
 
 unfoldable pub node : Form Node
-node = fields (both three (both four (both (both long long) (both term content))))
+node = fields (both three (both five (both (both long long) (both term content))))
     (λ n. (zxids_of n, (counts_of n, (marks_of n, (n.term, n.bytes))))) node_of
 
 -- a node with its path

@@ -49,6 +49,7 @@ head_of s = record {
   last = s.applied;
   time = s.service.plain.time;
   zxid = s.service.plain.zxid;
+  limits = s.service.plain.limits;
   sessions = length (sessions_of s);
   nodes = length (below_of s);
   replies = length (replies_of s);
@@ -233,7 +234,7 @@ IsRowFault c in_order can bytes Memory = Unit {0}
 -- the same of the root, after this header
 abbrev pub IsRootFault : Header → List ℕ → RowFault → Type 0
 IsRootFault h =
-    IsRowFault node_text (λ e. e.0 ≡ []) (λ e. CanBegin e.1 h.time h.zxid h.last)
+    IsRowFault node_text (λ e. e.0 ≡ []) (λ e. CanBegin e.1 h.time h.zxid h.last h.limits)
 
 -- the same of the row that comes next
 abbrev pub IsSessionFault : MachineState → List ℕ → RowFault → Type 0

@@ -5,7 +5,7 @@ ghost use Rattle.std.specs.Prelude.{◌≡◌};
 use crate::header::Header;
 use std::marker::Model;
 use zprotocol::LogNumber;
-use ztree::Zxid;
+use ztree::{TreeLimits, Zxid};
 
 /// A header that is held beside the machine being read.
 #[derive(Drop)]
@@ -13,6 +13,7 @@ pub(crate) struct Head {
     pub(crate) last: LogNumber,
     pub(crate) time: u64,
     pub(crate) zxid: Zxid,
+    pub(crate) limits: TreeLimits,
     pub(crate) sessions: u32,
     pub(crate) nodes: u32,
     pub(crate) replies: u32,
@@ -30,6 +31,7 @@ impl Model for Head {
       last = h.last;
       time = h.time;
       zxid = h.zxid;
+      limits = h.limits;
       sessions = h.sessions;
       nodes = h.nodes;
       replies = h.replies;
@@ -45,6 +47,7 @@ impl Head {
             last: header.last,
             time: header.time,
             zxid: header.zxid,
+            limits: header.limits,
             sessions: header.sessions,
             nodes: header.nodes,
             replies: header.replies,
@@ -59,6 +62,7 @@ impl Head {
             last: self.last,
             time: self.time,
             zxid: self.zxid,
+            limits: self.limits,
             sessions: self.sessions,
             nodes: self.nodes,
             replies: self.replies,

@@ -5,9 +5,9 @@
 //! comes next and which row is the last, without looking further.
 
 use zprotocol::LogNumber;
-use ztree::Zxid;
+use ztree::{TreeLimits, Zxid};
 
-/// The numbers of a state, and how many rows of each kind follow.
+/// The numbers of a state, the limits of its tree, and how many rows of each kind follow.
 #[derive(Clone, Copy, Debug, PartialEq, Eq)]
 pub struct Header {
     /// The number of the last entry that the machine applied.
@@ -16,6 +16,8 @@ pub struct Header {
     pub time: u64,
     /// The zxid of the last change.
     pub zxid: Zxid,
+    /// The limits of the tree.
+    pub limits: TreeLimits,
     /// The number of sessions.
     pub sessions: u32,
     /// The number of nodes, the root included.

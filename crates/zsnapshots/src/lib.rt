@@ -1,8 +1,8 @@
 //! The rows of a snapshot: the whole state of a machine as bytes, row by row.
 //!
 //! They are a header, the root, the sessions by id, the other nodes by path, and the cached replies
-//! by client. A row is a frame of its own (`zwire`), so that no buffer has to hold a state, which
-//! is up to 268 MB.
+//! by client. A row is a frame of its own (`zwire`), so that no buffer has to hold a state. The
+//! header has the limits of the tree, so it is read back within the same limits.
 //!
 //! `Writing` returns the rows of a machine in order, or those of its tree alone. `RowKeys` borrows
 //! no machine, and writes a row by its number. `Reading` takes one row at a time, and returns the

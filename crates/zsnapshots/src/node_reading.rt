@@ -9,7 +9,7 @@ use zcodec::{Fault, ReadError, u64_at};
 use zpath::Path;
 use ztree::{Node, Term, Ttl, Zxid};
 use zwire::records::{content_of, path_of};
-use zwire::{four_at, three_at};
+use zwire::{five_at, three_at};
 
 /// Reads a node with its path.
 #[tactic(auto, unfolding(crate::specs::Rows::node_text))]
@@ -27,7 +27,7 @@ fn node_of(alloc: Global, bytes: &[u8]) -> Result<(Node, &[u8]), ReadError>
     ensures { Gives (λ x. (x.0, x.1.now)) result (node.read bytes.now) }
 {
     let (czxid, mzxid, pzxid, rest) = three_at(bytes)?;
-    let (ctime, mtime, version, cversion, rest) = four_at(rest)?;
+    let (ctime, mtime, version, cversion, aversion, rest) = five_at(rest)?;
     let (owner, rest) = u64_at(rest)?;
     let (seq, rest) = u64_at(rest)?;
     let (term, rest) = match term_of(rest) {
@@ -44,6 +44,7 @@ fn node_of(alloc: Global, bytes: &[u8]) -> Result<(Node, &[u8]), ReadError>
         mtime,
         version,
         cversion,
+        aversion,
         owner,
         seq,
         term,

@@ -2,7 +2,7 @@
 
 ghost use Rattle.std.specs.Prelude.{◌≡◌, ◌++◌, OnOk};
 ghost use Rattle.zcodec.specs.Forms.{both};
-ghost use Rattle.zwire.specs.Fields.{three, four};
+ghost use Rattle.zwire.specs.Fields.{three, four, five};
 ghost use Rattle.zwire.specs.records.Fields.{long};
 ghost use Rattle.zsnapshots.specs.Rows.{zxids_of, counts_of, marks_of, term as term_form, node as node_form};
 ghost use Rattle.zsnapshots.specs.Rows.{node_text};
@@ -53,15 +53,25 @@ fn put_zxids(out: &mut Vec<u8>, node: &Node) -> Result<(), AllocError>
     put_u64(out, node.pzxid.number())
 }
 
-// Writes its two times and its two versions.
+// Writes its two times and its three versions.
 fn put_counts(out: &mut Vec<u8>, node: &Node) -> Result<(), AllocError>
-    ensures text { OnOk result (out.new.items ≡ out.old.items ++ four.spell (counts_of node.now)) }
-    ensures fits { OnOk result (four.Fits (counts_of node.now)) }
+    ensures text { OnOk result (out.new.items ≡ out.old.items ++ five.spell (counts_of node.now)) }
+    ensures fits { OnOk result (five.Fits (counts_of node.now)) }
 {
     put_u64(out, node.ctime)?;
+    put_later_counts(out, node)
+}
+
+// Writes those of them that come after the first.
+fn put_later_counts(out: &mut Vec<u8>, node: &Node) -> Result<(), AllocError>
+    ensures text { OnOk result
+        (out.new.items ≡ out.old.items ++ four.spell (counts_of node.now).1) }
+    ensures fits { OnOk result (four.Fits (counts_of node.now).1) }
+{
     put_u64(out, node.mtime)?;
     put_u64(out, node.version)?;
-    put_u64(out, node.cversion)
+    put_u64(out, node.cversion)?;
+    put_u64(out, node.aversion)
 }
 
 // Writes its owner and its counter.

@@ -105,13 +105,16 @@ impl Reading {
         requires { path ≡ [] }
         ensures reading { IfOk result (λ r. r ≡ record {
           header = header;
-          state = rooted_machine root header.time header.zxid header.last;
+          state = rooted_machine root header.time header.zxid header.last header.limits;
         }) }
-        ensures can { OnOk result (CanBegin root header.time header.zxid header.last) }
+        ensures can { OnOk result
+            (CanBegin root header.time header.zxid header.last header.limits) }
         ensures fault { IfErr result (λ fault.
-            CanBegin root header.time header.zxid header.last → fault ≡ OfMemory) }
+            CanBegin root header.time header.zxid header.last header.limits
+            → fault ≡ OfMemory) }
     {
-        match Restoring::new(alloc, root, header.time, header.zxid, header.last.number()) {
+        let (time, zxid, last) = (header.time, header.zxid, header.last.number());
+        match Restoring::new(alloc, root, time, zxid, last, header.limits) {
             Ok(restoring) => Ok(Reading::of(alloc, header, path, restoring)),
             Err(fault) => {
                 drop(path);

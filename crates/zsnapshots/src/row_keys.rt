@@ -161,6 +161,7 @@ impl RowKeys {
             last: last_of(machine, self.is_alone),
             time: machine.time(),
             zxid: machine.zxid(),
+            limits: machine.limits(),
             sessions: self.sessions.len() as u32,
             nodes: (self.paths.len() - 1) as u32,
             replies: self.clients.len() as u32,

@@ -1,15 +1,15 @@
 //! Headers, sessions and cached replies, read from the front of bytes with what follows them.
 
 ghost use Rattle.zcodec.specs.Readers.{Reads, Gives};
-ghost use Rattle.zsnapshots.specs.Rows.{totals, header_text, session, session_text, kept_of};
+ghost use Rattle.zsnapshots.specs.Rows.{totals, limits, header_text, session, session_text, kept_of};
 ghost use Rattle.zsnapshots.specs.Rows.{reply_text};
 
 use crate::header::Header;
 use std::alloc::Global;
 use zcalls::{CallNumber, Reply};
 use zcodec::{Fault, ReadError, u32_at, u64_at};
-use ztree::{ClientId, Session, SessionId, Zxid};
-use zwire::{call_number_at, client_at, log_number_at, reply_of};
+use ztree::{ClientId, Session, SessionId, TreeLimits, Zxid};
+use zwire::{call_number_at, client_at, log_number_at, reply_of, three_at};
 
 /// Reads a header.
 #[tactic(auto, unfolding(crate::specs::Rows::header_text))]
@@ -22,16 +22,35 @@ pub(crate) fn header_text_at(bytes: &[u8]) -> Result<(Header, &[u8]), Fault>
     };
     let (time, rest) = u64_at(rest)?;
     let (zxid, rest) = u64_at(rest)?;
+    let (limits, rest) = match limits_at(rest) {
+        Ok(read) => read,
+        Err(fault) => return Err(fault),
+    };
     let (sessions, nodes, replies, rest) = totals_at(rest)?;
     let header = Header {
         last,
         time,
         zxid: Zxid::new(zxid),
+        limits,
         sessions,
         nodes,
         replies,
     };
     Ok((header, rest))
+}
+
+// Reads the limits of a tree.
+#[tactic(auto, unfolding(crate::specs::Rows::limits))]
+fn limits_at(bytes: &[u8]) -> Result<(TreeLimits, &[u8]), Fault>
+    ensures { Reads (λ x. (x.0, x.1.now)) result (limits.read bytes.now) }
+{
+    let (nodes, sessions, timeout, rest) = three_at(bytes)?;
+    let limits = TreeLimits {
+        nodes: nodes as usize,
+        sessions: sessions as usize,
+        timeout,
+    };
+    Ok((limits, rest))
 }
 
 // Reads how many rows of each kind follow.

@@ -4,7 +4,7 @@
 ghost use Rattle.std.specs.Prelude.{◌≡◌, ◌++◌, OnOk};
 ghost use Rattle.zcodec.specs.Forms.{both};
 ghost use Rattle.zwire.specs.records.Fields.{long};
-ghost use Rattle.zsnapshots.specs.Rows.{clocks, totals, header_text};
+ghost use Rattle.zsnapshots.specs.Rows.{clocks, limits as limits_form, totals, header_text};
 ghost use Rattle.zsnapshots.specs.Rows.{session as session_form, session_text, kept_of};
 ghost use Rattle.zsnapshots.specs.Rows.{reply_text};
 
@@ -13,7 +13,7 @@ use std::alloc::{AllocError, Global};
 use zcalls::{CallNumber, Reply};
 use zcodec::{put_u32, put_u64};
 use zprotocol::LogNumber;
-use ztree::{ClientId, Session, SessionId, Zxid};
+use ztree::{ClientId, Session, SessionId, TreeLimits, Zxid};
 use zwire::{put_call_number, put_client, put_log_number, put_reply};
 
 /// Writes a header.
@@ -23,6 +23,7 @@ pub(crate) fn put_header_text(out: &mut Vec<u8>, header: Header) -> Result<(), A
     ensures fits { OnOk result (header_text.Fits header) }
 {
     put_clocks(out, header.last, header.time, header.zxid)?;
+    put_limits(out, header.limits)?;
     put_totals(out, header.sessions, header.nodes, header.replies)
 }
 
@@ -34,6 +35,16 @@ fn put_clocks(out: &mut Vec<u8>, last: LogNumber, time: u64, zxid: Zxid) -> Resu
 {
     put_log_number(out, last)?;
     put_two(out, time, zxid.number())
+}
+
+// Writes the limits of a tree.
+#[tactic(auto, unfolding(crate::specs::Rows::limits))]
+fn put_limits(out: &mut Vec<u8>, limits: TreeLimits) -> Result<(), AllocError>
+    ensures text { OnOk result (out.new.items ≡ out.old.items ++ limits_form.spell limits) }
+    ensures fits { OnOk result (limits_form.Fits limits) }
+{
+    put_u64(out, limits.nodes as u64)?;
+    put_two(out, limits.sessions as u64, limits.timeout)
 }
 
 // Writes how many rows of each kind follow.

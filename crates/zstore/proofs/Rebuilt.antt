@@ -9,6 +9,7 @@ use Rattle.std.specs.FinMap as finite
 use Rattle.std.specs.FinMap.{find, is_sorted, entries_sorted, get-entries, nat_cmp-IsAntisymmetric}
 use Rattle.std.specs.FinMap.Entries.{below_all}
 use Rattle.zpath.specs.Grammar.{path_cmp}
+use Rattle.ztree.specs.declared.limits.TreeLimits.{TreeLimits}
 use Rattle.ztree.specs.declared.node.Node.{Node}
 use Rattle.ztree.specs.declared.session.Session.{Session}
 use Rattle.ztree.specs.Tree.{Tree, Path, Nodes, Sessions, parent_of, has_node}
@@ -44,29 +45,31 @@ module _ (t : Tree) (lawful : IsLawful t) where
 
   -- its next session can be put
   pub session_can : (u : Tree) (e : ℕ × Session) (rest : List (ℕ × Session)) → u.time ≡ t.time →
-      sessions_left u.sessions (e ∷ rest) → CanPutSession u e.0 e.1
-  session_can u e rest time left =
+      u.limits ≡ t.limits → sessions_left u.sessions (e ∷ rest) → CanPutSession u e.0 e.1
+  session_can u e rest time limits left =
       let is = left_is nat_cmp_total nat_cmp-IsAntisymmetric t.sessions u.sessions e rest left in
       let fewer = left_fewer nat_cmp_total nat_cmp-IsAntisymmetric t.sessions u.sessions e rest left in
       let few = lawful.few_sessions in
+      let most : u.limits.sessions ≡ t.limits.sessions = ap (λ (l : TreeLimits). l.sessions) limits in
       let later = lawful.deadlines e.0 e.1 is in
       record {
         free = left_free nat_cmp_total nat_cmp-IsAntisymmetric t.sessions u.sessions e rest left;
         somebody = lawful.ids e.0 e.1 is;
         lives = omega (arith, time, later);
-        few = omega (arith, fewer, few);
+        few = omega (arith, fewer, few, most);
       }
 
   -- its next node can be put
   pub node_can : (u : Tree) (e : Path × Node) (rest : List (Path × Node)) → u.sessions ≡ t.sessions →
-      has_node u.nodes [] ≡ true → nodes_left u.nodes (e ∷ rest) → CanPut u e.0 e.1
-  node_can u e rest sessions root left =
+      u.limits ≡ t.limits → has_node u.nodes [] ≡ true → nodes_left u.nodes (e ∷ rest) → CanPut u e.0 e.1
+  node_can u e rest sessions limits root left =
       let is = left_is paths_total same_path t.nodes u.nodes e rest left in
       let free = ap is_some (left_free paths_total same_path t.nodes u.nodes e rest left) in
       let below : e.0 ≢ [] = λ at.
       let f : true ≡ false = sym root ∙ ap (has_node u.nodes) (sym at) ∙ free in cc in
       let fewer = left_fewer paths_total same_path t.nodes u.nodes e rest left in
       let few = lawful.few_nodes in
+      let most : u.limits.nodes ≡ t.limits.nodes = ap (λ (l : TreeLimits). l.nodes) limits in
       record {
         free = free;
         parent = subst IsPersistent
@@ -76,7 +79,7 @@ module _ (t : Tree) (lawful : IsLawful t) where
         owner = subst (λ (s : Sessions). IsOwner s e.1.owner) (sym sessions)
             (lawful.owners e.0 e.1 is);
         one_end = lawful.ends e.0 e.1 is;
-        few = omega (arith, fewer, few);
+        few = omega (arith, fewer, few, most);
       }
 
   pub sessions_put : (nodes : Nodes) (m : Sessions) (rest : List (ℕ × Session)) → sessions_left m rest →
@@ -89,7 +92,7 @@ module _ (t : Tree) (lawful : IsLawful t) where
         (left_done nat_cmp_total nat_cmp-IsAntisymmetric t.sessions m left),
   )
   sessions_put nodes m (e ∷ rest) left =
-      let can = session_can (record t { nodes = nodes; sessions = m }) e rest refl left in
+      let can = session_can (record t { nodes = nodes; sessions = m }) e rest refl refl left in
       let more = sessions_put nodes (finite.insert m e.0 e.1) rest
       (left_next nat_cmp_total nat_cmp-IsAntisymmetric t.sessions m e rest left) in
       ((can, more.0), more.1)
@@ -100,7 +103,7 @@ module _ (t : Tree) (lawful : IsLawful t) where
   nodes_put m [] left root =
       (tt, ap (λ (n : Nodes). record t { nodes = n }) (left_done paths_total same_path t.nodes m left))
   nodes_put m (e ∷ rest) left root =
-      let can = node_can (record t { nodes = m }) e rest refl root left in
+      let can = node_can (record t { nodes = m }) e rest refl refl root left in
       let more = nodes_put (finite.insert m e.0 e.1) rest
       (left_next paths_total same_path t.nodes m e rest left) (has-inserted m e.0 e.1 [] root) in
       ((can, more.0), more.1)
@@ -150,12 +153,12 @@ refused_roots root cannot whole lawful at = cannot (root_can whole lawful root a
 
 pub refused_sessions : RefusedSessionsAreNowhere
 refused_sessions so_far id s cannot whole lawful next =
-    cannot (session_can whole lawful so_far (id, s) next.after next.time
+    cannot (session_can whole lawful so_far (id, s) next.after next.time next.limits
     (left_at nat_cmp_total nat_cmp-IsAntisymmetric whole.sessions so_far.sessions
     ((id, s) ∷ next.after) next.rows))
 
 pub refused_nodes : RefusedNodesAreNowhere
 refused_nodes so_far path n before cannot whole lawful next =
-    cannot (node_can whole lawful so_far (path, n) next.after next.sessions
+    cannot (node_can whole lawful so_far (path, n) next.after next.sessions next.limits
     (is_there _ before.root.0 before.root.1)
     (left_at paths_total same_path whole.nodes so_far.nodes ((path, n) ∷ next.after) next.rows))

@@ -2,6 +2,7 @@
 pub mod Maps
 pub mod Undone
 pub mod Cached
+pub mod Fitting
 pub mod Noted
 pub mod Steps
 pub mod Noting

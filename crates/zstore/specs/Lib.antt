@@ -1,4 +1,5 @@
 pub mod StoreView
+pub mod Limiting
 pub mod Restored
 pub mod RestoredLaws
 pub mod support

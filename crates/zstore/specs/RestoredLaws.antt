@@ -14,11 +14,11 @@ pub record IsRebuilt (t : Tree) : Type 0 where
   pub rows : List (Path × Node)
   pub listed : entries t.nodes ≡ ([], root) ∷ rows
   pub can_root : CanBeRoot root
-  pub can_sessions : CanPutSessions (rooted_tree root t.time t.zxid) (entries t.sessions)
+  pub can_sessions : CanPutSessions (rooted_tree root t.time t.zxid t.limits) (entries t.sessions)
   pub can_nodes : CanPutAll
-      (with_session_rows (rooted_tree root t.time t.zxid) (entries t.sessions)) rows
+      (with_session_rows (rooted_tree root t.time t.zxid t.limits) (entries t.sessions)) rows
   pub whole : with_rows
-      (with_session_rows (rooted_tree root t.time t.zxid) (entries t.sessions)) rows ≡ t
+      (with_session_rows (rooted_tree root t.time t.zxid t.limits) (entries t.sessions)) rows ≡ t
 
 -- a lawful tree's own rows restore it
 abbrev pub RowsMakeTheirTree : Type 0
@@ -29,6 +29,7 @@ pub record IsNextSession (whole so_far : Tree) (id : ℕ) (s : Session) : Type 0
   pub after : List (ℕ × Session)
   pub rows : entries whole.sessions ≡ entries so_far.sessions ++ (id, s) ∷ after
   pub time : so_far.time ≡ whole.time
+  pub limits : so_far.limits ≡ whole.limits
 
 -- in the order of paths, these nodes are the first of the whole tree's, and this one is next; all
 -- sessions are there
@@ -36,6 +37,7 @@ pub record IsNext (whole so_far : Tree) (path : Path) (n : Node) : Type 0 where
   pub after : List (Path × Node)
   pub rows : entries whole.nodes ≡ entries so_far.nodes ++ (path, n) ∷ after
   pub sessions : so_far.sessions ≡ whole.sessions
+  pub limits : so_far.limits ≡ whole.limits
 
 -- a node that can't be the root is the root of no lawful tree
 abbrev pub RefusedRootsAreNowhere : Type 0

@@ -4,3 +4,4 @@ pub mod Undoing
 pub mod Stored
 pub mod Parts
 pub mod Samples
+pub mod Timeouts

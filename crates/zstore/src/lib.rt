@@ -9,6 +9,8 @@
 #![tactic(auto)]
 
 pub mod laws;
+mod limit_fault;
+mod limiting;
 pub mod limits;
 mod log;
 mod marking;
@@ -23,8 +25,9 @@ mod undo;
 mod undoing;
 mod writing;
 
+pub use limit_fault::LimitFault;
 pub use restore_fault::RestoreFault;
 pub use store::Store;
 pub use znodes::Id;
 pub use ztree::limits::{MAX_DATA, MAX_NODES, MAX_SESSIONS};
-pub use ztree::{ClientId, Data, Node, Session, SessionId, Stat, Term, Ttl, Zxid};
+pub use ztree::{ClientId, Data, Node, Session, SessionId, Stat, Term, TreeLimits, Ttl, Zxid};

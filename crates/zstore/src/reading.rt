@@ -4,9 +4,10 @@
 //! `stale` names each stale node once, in no fixed order: removing two nodes in either order leaves
 //! the same tree (`proofs/order`).
 
-ghost use Rattle.std.specs.Prelude.{◌≡◌, ◌+◌, Some, None, IfOk, IfSome, IfNone, OnSome, is_some, IsSome};
-ghost use Rattle.std.specs.FinMap.{keys};
-ghost use Rattle.ztree.specs.Tree.{has_node};
+ghost use Rattle.std.specs.Prelude.{◌≡◌, ◌+◌, [], Some, None, IfOk, IfSome, IfNone, OnSome, is_some, IsSome};
+ghost use Rattle.std.specs.FinMap.{get, keys};
+ghost use Rattle.ztree.specs.Stale.{stale_nodes};
+ghost use Rattle.ztree.specs.Tree.{has_node, ephemerals};
 ghost use Rattle.zstore.specs.StoreView.{path_of, node_of, data_of, seq_of, term_of, AreStale, IsStatOf, AreChildrenOf, without_mark};
 
 use crate::log::Log;
@@ -81,6 +82,26 @@ impl Store {
         self.nodes.stale(tick)
     }
 
+    /// Returns the paths of the nodes that the next tick removes, in their order; or `Memory`. The
+    /// cost is that of `stale`.
+    pub fn stale_paths(&self, tick: u64) -> Result<Vec<Path>, Memory>
+        requires next { tick ≡ self.now.tree.time + 1 }
+        ensures { IfOk result (λ paths. paths.items ≡ stale_nodes self.now.tree.nodes tick) }
+    {
+        self.nodes.stale_paths(tick)
+    }
+
+    /// Returns the paths of the nodes that a session owns, in their order; or `Memory`. A session
+    /// that isn't there owns none. The cost depends on the number of these nodes.
+    pub fn owned(&self, session: SessionId) -> Result<Vec<Path>, Memory>
+        ensures owned { IfOk result (λ paths. IsSome (get self.now.tree.sessions session)
+            → paths.items ≡ ephemerals self.now.tree.nodes session) }
+        ensures gone { IfOk result (λ paths.
+            get self.now.tree.sessions session ≡ None → paths.items ≡ []) }
+    {
+        self.nodes.owned(session.number())
+    }
+
     /// Returns the names of a node's children in byte order, or `Memory`.
     pub fn children(&self, id: Id) -> Result<Vec<Name>, Memory>
         requires live { IsSome (path_of self.now id) }
@@ -117,6 +138,7 @@ impl Store {
             sessions: self.sessions.copy()?,
             time: self.time,
             zxid: self.zxid,
+            limits: self.limits,
             log: Log::new(self.alloc),
             alloc: self.alloc,
         })

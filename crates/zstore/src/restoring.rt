@@ -3,6 +3,7 @@
 
 ghost use Rattle.std.specs.Prelude.{◌≡◌, ◌≢◌, ◌≤◌, ◌+◌, [], None, Some, IsTrue, IsFalse, false, IfOk, IfErr, IfSome, IfNone, OnSome, OnOk, OnErr};
 ghost use Rattle.std.specs.FinMap.{get};
+ghost use Rattle.ztree.specs.Limits.{AreLimits};
 ghost use Rattle.ztree.specs.Tree.{parent_of, has_node};
 ghost use Rattle.ztree.specs.Lawful.{IsPersistent, IsOwner, HasOneEnd};
 ghost use Rattle.zstore.specs.declared.restore_fault.RestoreFault.TheVariants.{Memory as OfMemory};
@@ -15,19 +16,31 @@ use std::alloc::Global;
 use zalloc::Memory;
 use znodes::Id;
 use zpath::Path;
-use ztree::limits::{MAX_NODES, MAX_SESSIONS};
-use ztree::{Node, Session, SessionId, Zxid};
+use ztree::{Node, Session, SessionId, TreeLimits, Zxid};
 
 impl Store {
-    /// Makes a store of the root alone, at this tick and after this change. Refuses a root with an
-    /// owner, or with a term that isn't unlimited.
-    pub fn restored(alloc: Global, root: Node, time: u64, zxid: Zxid) -> Result<Store, RestoreFault>
-        ensures tree { IfOk result (λ s. s.tree ≡ rooted_tree root time zxid) }
+    /// Makes a store of the root alone, at this tick, after this change and within these limits.
+    /// Refuses a root with an owner, or with a term that isn't unlimited, and limits that no tree
+    /// can have.
+    pub fn restored(
+        alloc: Global,
+        root: Node,
+        time: u64,
+        zxid: Zxid,
+        limits: TreeLimits,
+    ) -> Result<Store, RestoreFault>
+        ensures tree { IfOk result (λ s. s.tree ≡ rooted_tree root time zxid limits) }
         ensures given { IfOk result (λ s. s.given ≤ 1) }
         ensures unmarked { IfOk result (λ s. s.marked ≡ None) }
         ensures can { OnOk result (CanBeRoot root) }
-        ensures fault { IfErr result (λ fault. CanBeRoot root → fault ≡ OfMemory) }
+        ensures allowed { OnOk result (AreLimits limits) }
+        ensures fault { IfErr result (λ fault.
+            CanBeRoot root → AreLimits limits → fault ≡ OfMemory) }
     {
+        if !limits.is_allowed() {
+            drop(root);
+            return Err(RestoreFault::Unlawful);
+        }
         if root.owner != 0 {
             drop(root);
             return Err(RestoreFault::Unlawful);
@@ -36,7 +49,7 @@ impl Store {
             drop(root);
             return Err(RestoreFault::Unlawful);
         }
-        Ok(Store::rooted(alloc, root, time, zxid)?)
+        Ok(Store::rooted(alloc, root, time, zxid, limits)?)
     }
 
     /// Puts one more session, as it is. If it is refused, nothing has changed.
@@ -55,7 +68,7 @@ impl Store {
         if session.deadline <= self.time {
             return Err(RestoreFault::Unlawful);
         }
-        if self.sessions() >= MAX_SESSIONS {
+        if self.sessions() >= self.limits.sessions {
             return Err(RestoreFault::Unlawful);
         }
         if self.session(id).is_some() {
@@ -120,7 +133,7 @@ impl Store {
         if !has_one_end(node) {
             return Err(RestoreFault::Unlawful);
         }
-        if self.nodes() >= MAX_NODES {
+        if self.nodes() >= self.limits.nodes {
             return Err(RestoreFault::Unlawful);
         }
         if self.find(path).is_some() {

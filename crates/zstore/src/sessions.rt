@@ -10,7 +10,7 @@ ghost use Rattle.std.specs.FinMap.{get};
 ghost use Rattle.ztree.specs.Tree.{ephemerals};
 ghost use Rattle.ztree.specs.Sessions.{with_session, with_renewed_session, without_session, due_sessions, with_next_tick};
 ghost use Rattle.ztree.specs.Lawful.{IsLawful};
-ghost use Rattle.ztree.specs.declared.limits.TheConstants.{MAX_SESSIONS, ZXID_BOUND, TICK_BOUND, DEADLINE_BOUND};
+ghost use Rattle.ztree.specs.declared.limits.TheConstants.{ZXID_BOUND, TICK_BOUND, DEADLINE_BOUND};
 ghost use Rattle.ztree.specs.Room.{HasRoomForEnd, HasRoomForDeadline};
 ghost use Rattle.zsessions.specs.Deadlines.{is_held_by};
 ghost use Rattle.zstore.specs.Restored.{with_session_row, CanPutSession};
@@ -42,7 +42,7 @@ impl Store {
     /// now. The caller has validated the request. After `Memory` nothing has changed.
     pub fn open_session(&mut self, client: ClientId, timeout: u64) -> Result<(), Memory>
         requires free { get self.old.tree.sessions (self.old.tree.zxid + 1) ≡ None }
-        requires few { finite.len self.old.tree.sessions < MAX_SESSIONS }
+        requires few { finite.len self.old.tree.sessions < self.old.tree.limits.sessions }
         requires lives { 0 < timeout }
         requires deadline { self.old.tree.time + timeout < DEADLINE_BOUND }
         requires zxid { self.old.tree.zxid + 1 < ZXID_BOUND }

@@ -9,7 +9,7 @@ use std::marker::Model;
 use zalloc::Memory;
 use znodes::Nodes;
 use zsessions::Sessions;
-use ztree::{Data, Node, Term, Zxid};
+use ztree::{Data, Node, Term, TreeLimits, Zxid};
 
 /// The znodes and sessions of one machine, its clock and the zxid of its last change.
 #[derive(Drop)]
@@ -18,6 +18,7 @@ pub struct Store {
     pub(crate) sessions: Sessions,
     pub(crate) time: u64,
     pub(crate) zxid: Zxid,
+    pub(crate) limits: TreeLimits,
     pub(crate) log: Log,
     pub(crate) alloc: Global,
 }
@@ -34,29 +35,48 @@ impl Model for Store {
 
     ghost view = { held_by };
 
-    ghost invariant = { λ s. IsStored (notes_of s.log) s.nodes s.sessions s.time s.zxid };
+    ghost invariant = { λ s. IsStored (notes_of s.log) s.nodes s.sessions s.time s.zxid s.limits };
 }
 
 impl Store {
-    ghost use Rattle.ztree.specs.Tree.{opening_tree};
+    ghost use Rattle.ztree.specs.Limits.{AreLimits};
+    ghost use Rattle.ztree.specs.Tree.{opening_tree, opening_within};
+    ghost use Rattle.ztree.specs.Counts.{owned_count, data_count};
     ghost use Rattle.ztree.specs.Lawful.{IsLawful, HasPaths};
     ghost use Rattle.zstore.specs.Restored.{rooted_tree, CanBeRoot};
 
-    /// Makes a store in the initial state: the root alone.
+    /// Makes a store in the initial state of the profile: the root alone.
     pub fn new(alloc: Global) -> Result<Store, Memory>
         ensures opening { IfOk result (λ s. s.tree ≡ opening_tree) }
         ensures given { IfOk result (λ s. s.given ≤ 1) }
         ensures unmarked { IfOk result (λ s. s.marked ≡ None) }
     {
-        let zxid = Zxid::new(0);
-        let root = Node::new(Data::empty(), 0, Term::Unlimited, zxid, 0);
-        Store::rooted(alloc, root, 0, zxid)
+        Store::within(alloc, TreeLimits::profile())
     }
 
-    /// Makes a store of the root alone, at this tick and after this change.
-    pub(crate) fn rooted(alloc: Global, root: Node, time: u64, zxid: Zxid) -> Result<Store, Memory>
-        requires { CanBeRoot root }
-        ensures tree { IfOk result (λ s. s.tree ≡ rooted_tree root time zxid) }
+    /// Makes a store in the initial state within these limits: the root alone.
+    pub fn within(alloc: Global, limits: TreeLimits) -> Result<Store, Memory>
+        requires { AreLimits limits }
+        ensures opening { IfOk result (λ s. s.tree ≡ opening_within limits) }
+        ensures given { IfOk result (λ s. s.given ≤ 1) }
+        ensures unmarked { IfOk result (λ s. s.marked ≡ None) }
+    {
+        let zxid = Zxid::new(0);
+        let root = Node::new(Data::empty(), 0, Term::Unlimited, zxid, 0);
+        Store::rooted(alloc, root, 0, zxid, limits)
+    }
+
+    /// Makes a store of the root alone, at this tick, after this change and within these limits.
+    pub(crate) fn rooted(
+        alloc: Global,
+        root: Node,
+        time: u64,
+        zxid: Zxid,
+        limits: TreeLimits,
+    ) -> Result<Store, Memory>
+        requires root { CanBeRoot root }
+        requires limits { AreLimits limits }
+        ensures tree { IfOk result (λ s. s.tree ≡ rooted_tree root time zxid limits) }
         ensures given { IfOk result (λ s. s.given ≤ 1) }
         ensures unmarked { IfOk result (λ s. s.marked ≡ None) }
     {
@@ -65,6 +85,7 @@ impl Store {
             sessions: Sessions::new(alloc),
             time,
             zxid,
+            limits,
             log: Log::new(alloc),
             alloc,
         })
@@ -84,11 +105,32 @@ impl Store {
         self.zxid
     }
 
+    /// Returns the limits of the tree.
+    pub fn limits(&self) -> TreeLimits
+        ensures { result ≡ self.now.tree.limits }
+    {
+        self.limits
+    }
+
     /// Returns the number of nodes, the root included.
     pub fn nodes(&self) -> usize
         ensures { result ≡ finite.len self.now.tree.nodes }
     {
         self.nodes.len()
+    }
+
+    /// Returns the number of nodes that sessions own.
+    pub fn owned_count(&self) -> usize
+        ensures { result ≡ owned_count self.now.tree.nodes }
+    {
+        self.nodes.owned_count()
+    }
+
+    /// Returns the bytes of the data of all nodes.
+    pub fn data_count(&self) -> u64
+        ensures { result ≡ data_count self.now.tree.nodes }
+    {
+        self.nodes.data_count()
     }
 
     /// Returns the number of sessions.

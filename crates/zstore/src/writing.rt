@@ -6,11 +6,11 @@
 
 ghost use Rattle.std.specs.Prelude.{◌≡◌, ◌≢◌, ◌⊎◌, ◌<◌, ◌+◌, [], Some, IfOk, OnOk, OnErr, IsSome, None, false};
 ghost use Rattle.std.specs.FinMap as finite;
-ghost use Rattle.ztree.specs.declared.limits.TheConstants.{MAX_NODES, ZXID_BOUND};
+ghost use Rattle.ztree.specs.declared.limits.TheConstants.{ZXID_BOUND};
 ghost use Rattle.zstore.specs.declared.limits.TheConstants.{ID_BOUND};
-ghost use Rattle.ztree.specs.Tree.{parent_of, has_node, with_next_zxid};
-ghost use Rattle.ztree.specs.Room.{HasRoomForChild, HasRoomForData};
-ghost use Rattle.zstore.specs.StoreView.{path_of, node_of, AtNode};
+ghost use Rattle.ztree.specs.Tree.{parent_of, has_node, with_acl_at, with_next_zxid};
+ghost use Rattle.ztree.specs.Room.{HasRoomForChild, HasRoomForData, HasRoomForAcl};
+ghost use Rattle.zstore.specs.StoreView.{path_of, node_of, AtNode, AtPath};
 ghost use Rattle.zstore.specs.StoreView.{KeepsIds, GivesAtMostOne, NamesNew, MakesNode, WritesData, mark_left};
 ghost use Rattle.zstore.specs.support.Parts.{WritesContent};
 ghost use Rattle.ztree.specs.Lawful.{IsPersistent, IsOwner};
@@ -54,7 +54,7 @@ impl Store {
         requires owner { IsOwner self.old.tree.sessions owner }
         requires one_end { (term ≡ Unlimited) ⊎ (owner ≡ 0) }
         requires counters { AtNode self.old parent (HasRoomForChild sequential) }
-        requires few { finite.len self.old.tree.nodes < MAX_NODES }
+        requires few { finite.len self.old.tree.nodes < self.old.tree.limits.nodes }
         requires zxid { self.old.tree.zxid + 1 < ZXID_BOUND }
         requires given { self.old.given < ID_BOUND }
         ensures added { OnOk result
@@ -101,6 +101,20 @@ impl Store {
             self.put_content(id, content);
         }
         Ok(())
+    }
+
+    /// Counts a write of the access control list of a live node, and gives up the savepoint.
+    /// Allocates nothing.
+    pub fn put_acl(&mut self, id: Id)
+        requires live { IsSome (path_of self.old id) }
+        requires counters { AtNode self.old id HasRoomForAcl }
+        ensures tree { AtPath self.old id (λ path.
+            self.new.tree ≡ with_acl_at self.old.tree path) }
+        ensures same { KeepsIds self.old self.new }
+        ensures unmarked { self.new.marked ≡ None }
+    {
+        self.nodes.raise_acl(id);
+        self.log.stop(&mut self.nodes);
     }
 
     // Writes the content of a live node, and notes how to undo that.

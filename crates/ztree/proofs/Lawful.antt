@@ -10,9 +10,11 @@ use Rattle.std.proofs.lemmas.Bool.Decides.{nat_tests}
 use Rattle.zpath.specs.Grammar.{path_cmp}
 use Rattle.ztree.specs.declared.term.Term.{Term}
 use Rattle.ztree.specs.declared.term.Term.TheVariants.{Unlimited}
+use Rattle.ztree.specs.declared.limits.TreeLimits.{TreeLimits}
+use Rattle.ztree.specs.Limits.{AreLimits}
 use Rattle.ztree.specs.declared.node.Node.{Node}
 use Rattle.ztree.specs.declared.session.Session.{Session}
-use Rattle.ztree.specs.Tree.{Tree, Path, Nodes, Sessions, opening_tree, new_node, parent_of, has_node, children, with_change_at, with_child, with_node, without_child, without_node, with_data, with_data_at, with_next_zxid}
+use Rattle.ztree.specs.Tree.{Tree, Path, Nodes, Sessions, opening_within, new_node, parent_of, has_node, children, with_change_at, with_child, with_node, without_child, without_node, with_data, with_data_at, with_next_zxid}
 use Rattle.ztree.specs.Sessions.{new_session, with_session, renewed_session, with_renewed_session, due_sessions, with_next_tick}
 use Rattle.ztree.specs.Lawful.{IsPersistent, IsOwner, HasOneEnd, IsLawful}
 use Rattle.ztree.proofs.Sorted.{paths_total, same_path}
@@ -34,7 +36,7 @@ same_ends n m owner term (inr nobody) = inr (owner ∙ nobody)
 module _ (t : Tree) (path : Path) (new : Node) (lawful : IsLawful t) where
   -- one more node, where its parent is persistent, its owner no one or a session, and its end one
   -- or none
-  pub lawful_inserted : has_node t.nodes path ≡ false → IsPersistent (finite.get t.nodes (parent_of path)) → IsOwner t.sessions new.owner → HasOneEnd new → finite.len t.nodes < 4096 → IsLawful (record t { nodes = finite.insert t.nodes path new })
+  pub lawful_inserted : has_node t.nodes path ≡ false → IsPersistent (finite.get t.nodes (parent_of path)) → IsOwner t.sessions new.owner → HasOneEnd new → finite.len t.nodes < t.limits.nodes → IsLawful (record t { nodes = finite.insert t.nodes path new })
   lawful_inserted free parent owner one few =
       record {
         root = stays [] lawful.root;
@@ -44,8 +46,9 @@ module _ (t : Tree) (path : Path) (new : Node) (lawful : IsLawful t) where
         ends = λ q n e. end_of n (get-inserted paths_total same_path t.nodes path new q n e);
         ids = lawful.ids;
         deadlines = lawful.deadlines;
-        few_nodes = len-insert-most paths_total same_path t.nodes path new 4096 few;
+        few_nodes = len-insert-most paths_total same_path t.nodes path new t.limits.nodes few;
         few_sessions = lawful.few_sessions;
+        allowed = lawful.allowed;
       }
     where
       stays : (q : Path) → IsPersistent (finite.get t.nodes q) → IsPersistent (finite.get (finite.insert t.nodes path new) q)
@@ -101,8 +104,9 @@ module _ (t : Tree) (path : Path) (f : Node → Node) (keeps : (n : Node) → ((
           ends = λ q n e. let m = before q n e in same_ends n m.0 m.2 m.3 (lawful.ends q m.0 m.1);
           ids = lawful.ids;
           deadlines = lawful.deadlines;
-          few_nodes = len-insert-there paths_total same_path t.nodes path (f old) old 4096 found lawful.few_nodes;
+          few_nodes = len-insert-there paths_total same_path t.nodes path (f old) old t.limits.nodes found lawful.few_nodes;
           few_sessions = lawful.few_sessions;
+          allowed = lawful.allowed;
         }
 
   -- one node changed, by a change that leaves its owner and its time to live
@@ -126,8 +130,9 @@ module _ (t : Tree) (path : Path) (lawful : IsLawful t) where
         ends = λ q n e. lawful.ends q n (get-removed paths_total same_path t.nodes path q n e).1;
         ids = lawful.ids;
         deadlines = lawful.deadlines;
-        few_nodes = len-remove-most paths_total same_path t.nodes path 4096 lawful.few_nodes;
+        few_nodes = len-remove-most paths_total same_path t.nodes path t.limits.nodes lawful.few_nodes;
         few_sessions = lawful.few_sessions;
+        allowed = lawful.allowed;
       }
     where
       stays : (q : Path) → q ≢ path → IsPersistent (finite.get t.nodes q) → IsPersistent (finite.get (finite.remove t.nodes path) q)
@@ -136,44 +141,45 @@ module _ (t : Tree) (path : Path) (lawful : IsLawful t) where
       above : (q : Path) (n : Node) → finite.get t.nodes q ≡ Some n → parent_of q ≢ path
       above q n e = children_gone t.nodes path q n below leaf e
 
--- the opening is lawful
-pub lawful_opening : IsLawful opening_tree
-lawful_opening =
+-- the initial state is lawful within any limits that a tree can have
+pub lawful_opening : (limits : TreeLimits) → AreLimits limits → IsLawful (opening_within limits)
+lawful_opening limits allowed =
     lawful_root
   where
     root : Node
     root = new_node [] 0 Unlimited 0 0
 
-    found : finite.get opening_tree.nodes [] ≡ Some root
+    found : finite.get (opening_within limits).nodes [] ≡ Some root
     found = get-insert-here paths_total same_path finite.empty [] root
 
-    only : (q : Path) (n : Node) → finite.get opening_tree.nodes q ≡ Some n → (q ≡ []) × (root ≡ n)
+    only : (q : Path) (n : Node) → finite.get (opening_within limits).nodes q ≡ Some n → (q ≡ []) × (root ≡ n)
     only q n e = by (get-inserted paths_total same_path finite.empty [] root q n e)
       where
         by : ((q ≡ []) × (root ≡ n)) ⊎ ((q ≢ []) × (finite.get (finite.empty {R = path_cmp}) q ≡ Some n)) → (q ≡ []) × (root ≡ n)
         by (inl is) = is
         by (inr old) = absurd (none_some n (sym (get-empty path_cmp q) ∙ old.1))
 
-    none : (id : ℕ) (s : Session) → finite.get opening_tree.sessions id ≡ Some s → ⊥
+    none : (id : ℕ) (s : Session) → finite.get (opening_within limits).sessions id ≡ Some s → ⊥
     none id s e = none_some s (sym (get-empty nat_cmp id) ∙ e)
 
-    lawful_root : IsLawful opening_tree
+    lawful_root : IsLawful (opening_within limits)
     lawful_root =
         record {
           root = (root, found, refl);
           root_stays = λ n e. ap (λ (m : Node). m.term) (sym (only [] n e).1);
-          parents = λ q is. let n = has_some _ is in subst (λ p. IsPersistent (finite.get opening_tree.nodes (parent_of p))) (sym (only q n.0 n.1).0) (root, found, refl);
+          parents = λ q is. let n = has_some _ is in subst (λ p. IsPersistent (finite.get (opening_within limits).nodes (parent_of p))) (sym (only q n.0 n.1).0) (root, found, refl);
           owners = λ q n e. inl (ap (λ (m : Node). m.owner) (sym (only q n e).1));
           ends = λ q n e. inl (ap (λ (m : Node). m.term) (sym (only q n e).1));
           ids = λ id s e. absurd (none id s e);
           deadlines = λ id s e. absurd (none id s e);
-          few_nodes = len-insert-most paths_total same_path finite.empty [] root 4096 (rw (len-empty path_cmp Node) (omega arith));
+          few_nodes = len-insert-most paths_total same_path finite.empty [] root limits.nodes (rw (len-empty path_cmp Node) allowed.some_nodes);
           few_sessions = rw (len-empty nat_cmp Session) (omega arith);
+          allowed = allowed;
         }
 
 -- a new node beneath a persistent one, of no one or of a session, where a session's has an unlimited
 -- term
-pub lawful_added : (t : Tree) (path : Path) (bytes : List ℕ) (owner : ℕ) (term : Term) (sequential : Bool) → IsLawful t → has_node t.nodes path ≡ false → IsPersistent (finite.get t.nodes (parent_of path)) → IsOwner t.sessions owner → (term ≡ Unlimited) ⊎ (owner ≡ 0) → finite.len t.nodes < 4096 → IsLawful (with_node t path bytes owner term sequential)
+pub lawful_added : (t : Tree) (path : Path) (bytes : List ℕ) (owner : ℕ) (term : Term) (sequential : Bool) → IsLawful t → has_node t.nodes path ≡ false → IsPersistent (finite.get t.nodes (parent_of path)) → IsOwner t.sessions owner → (term ≡ Unlimited) ⊎ (owner ≡ 0) → finite.len t.nodes < t.limits.nodes → IsLawful (with_node t path bytes owner term sequential)
 lawful_added t path bytes owner term sequential lawful free parent is_owner one few =
     let new = new_node bytes owner term (t.zxid + 1) t.time in
     lawful_changed (record t { nodes = finite.insert t.nodes path new }) (parent_of path) (with_child (t.zxid + 1) sequential) (λ n. (refl, refl)) (lawful_inserted t path new lawful free parent is_owner one few)
@@ -190,10 +196,10 @@ lawful_written t path bytes lawful = lawful_changed t path (with_data bytes (t.z
 -- a change counted
 pub lawful_raised : (t : Tree) → IsLawful t → IsLawful (with_next_zxid t)
 lawful_raised t lawful =
-    record { root = lawful.root; root_stays = lawful.root_stays; parents = lawful.parents; owners = lawful.owners; ends = lawful.ends; ids = lawful.ids; deadlines = lawful.deadlines; few_nodes = lawful.few_nodes; few_sessions = lawful.few_sessions }
+    record { root = lawful.root; root_stays = lawful.root_stays; parents = lawful.parents; owners = lawful.owners; ends = lawful.ends; ids = lawful.ids; deadlines = lawful.deadlines; few_nodes = lawful.few_nodes; few_sessions = lawful.few_sessions; allowed = lawful.allowed }
 
 -- a session under an id above 0, whose deadline is to come
-pub lawful_session : (t : Tree) (id : ℕ) (new : Session) → IsLawful t → 0 < id → t.time < new.deadline → finite.len (finite.insert t.sessions id new) ≤ 1024 → IsLawful (record t { sessions = finite.insert t.sessions id new })
+pub lawful_session : (t : Tree) (id : ℕ) (new : Session) → IsLawful t → 0 < id → t.time < new.deadline → finite.len (finite.insert t.sessions id new) ≤ t.limits.sessions → IsLawful (record t { sessions = finite.insert t.sessions id new })
 lawful_session t id new lawful above later few =
     record {
       root = lawful.root;
@@ -205,6 +211,7 @@ lawful_session t id new lawful above later few =
       deadlines = λ k s e. deadline_later s (get-inserted nat_cmp_total nat_cmp-IsAntisymmetric t.sessions id new k s e);
       few_nodes = lawful.few_nodes;
       few_sessions = few;
+      allowed = lawful.allowed;
     }
   where
     more : Sessions
@@ -230,10 +237,10 @@ lawful_session t id new lawful above later few =
     deadline_later s {k} (inr old) = lawful.deadlines k s old.1
 
 -- a session opened for at least one tick
-pub lawful_opened : (t : Tree) (client timeout : ℕ) → IsLawful t → 0 < timeout → finite.len t.sessions < 1024 → IsLawful (with_session t client timeout)
+pub lawful_opened : (t : Tree) (client timeout : ℕ) → IsLawful t → 0 < timeout → finite.len t.sessions < t.limits.sessions → IsLawful (with_session t client timeout)
 lawful_opened t client timeout lawful some few =
     let new = new_session client timeout t.time in
-    lawful_session t (t.zxid + 1) new lawful (omega arith) (omega (arith, some)) (len-insert-most nat_cmp_total nat_cmp-IsAntisymmetric t.sessions (t.zxid + 1) new 1024 few)
+    lawful_session t (t.zxid + 1) new lawful (omega arith) (omega (arith, some)) (len-insert-most nat_cmp_total nat_cmp-IsAntisymmetric t.sessions (t.zxid + 1) new t.limits.sessions few)
 
 -- a session renewed for at least one tick
 pub lawful_touched : (t : Tree) (id : ℕ) → IsLawful t → ((s : Session) → finite.get t.sessions id ≡ Some s → 0 < s.timeout) → IsLawful (with_renewed_session t id)
@@ -243,7 +250,7 @@ lawful_touched t id lawful some = by (finite.get t.sessions id) refl
     by None e = lawful
     by (Some s) e =
         let ticks = some s e in
-        lawful_session t id (renewed_session t.time s) lawful (lawful.ids id s e) (omega (arith, ticks)) (len-insert-there nat_cmp_total nat_cmp-IsAntisymmetric t.sessions id (renewed_session t.time s) s 1024 e lawful.few_sessions)
+        lawful_session t id (renewed_session t.time s) lawful (lawful.ids id s e) (omega (arith, ticks)) (len-insert-there nat_cmp_total nat_cmp-IsAntisymmetric t.sessions id (renewed_session t.time s) s t.limits.sessions e lawful.few_sessions)
 
 -- one tick more, where no session is due
 pub lawful_advanced : (t : Tree) → IsLawful t → due_sessions t.sessions (t.time + 1) ≡ [] → IsLawful (with_next_tick t)
@@ -258,6 +265,7 @@ lawful_advanced t lawful none =
       deadlines = λ id s e. beyond id s (none_of_entries nat_cmp_total nat_cmp-IsAntisymmetric _ t.sessions id s none e);
       few_nodes = lawful.few_nodes;
       few_sessions = lawful.few_sessions;
+      allowed = lawful.allowed;
     }
   where
     beyond : (id : ℕ) (s : Session) → cond (nat_le s.deadline (t.time + 1)) (Some id) None ≡ None → t.time + 1 < s.deadline

@@ -50,7 +50,8 @@ lawful_forgotten t id lawful none =
       ids = λ k s e. lawful.ids k s (get-removed nat_cmp_total nat_cmp-IsAntisymmetric t.sessions id k s e).1;
       deadlines = λ k s e. lawful.deadlines k s (get-removed nat_cmp_total nat_cmp-IsAntisymmetric t.sessions id k s e).1;
       few_nodes = lawful.few_nodes;
-      few_sessions = len-remove-most nat_cmp_total nat_cmp-IsAntisymmetric t.sessions id 1024 lawful.few_sessions;
+      few_sessions = len-remove-most nat_cmp_total nat_cmp-IsAntisymmetric t.sessions id t.limits.sessions lawful.few_sessions;
+      allowed = lawful.allowed;
     }
   where
     untested : (b : Bool) (path : Path) → cond b (Some path) None ≡ None → b ≡ false

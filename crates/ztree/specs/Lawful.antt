@@ -5,7 +5,7 @@ use Rattle.std.specs.Prelude.{◌≡◌, ℕ, ◌<◌, ◌≤◌, ◌⊎◌, tru
 use Rattle.std.specs.FinMap as finite
 use Rattle.std.specs.FinMap.{get}
 use Rattle.zpath.specs.Grammar.{IsPath}
-use Rattle.ztree.specs.declared.limits.TheConstants.{MAX_NODES, MAX_SESSIONS}
+use Rattle.ztree.specs.Limits.{AreLimits}
 use Rattle.ztree.specs.declared.term.Term.TheVariants.{Unlimited}
 use Rattle.ztree.specs.declared.node.Node.{Node}
 use Rattle.ztree.specs.declared.session.Session.{Session}
@@ -45,8 +45,9 @@ pub record IsLawful (t : Tree) : Type 0 where
   pub ends : AllNodes HasOneEnd t.nodes
   pub ids : AllSessions (λ id s. 0 < id) t.sessions
   pub deadlines : AllSessions (λ id s. t.time < s.deadline) t.sessions
-  pub few_nodes : finite.len t.nodes ≤ MAX_NODES
-  pub few_sessions : finite.len t.sessions ≤ MAX_SESSIONS
+  pub few_nodes : finite.len t.nodes ≤ t.limits.nodes
+  pub few_sessions : finite.len t.sessions ≤ t.limits.sessions
+  pub allowed : AreLimits t.limits
 
 -- every key is a path by the grammar
 abbrev pub HasPaths : Nodes → Type 0

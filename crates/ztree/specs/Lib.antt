@@ -1,8 +1,10 @@
+pub mod Limits
 pub mod Ttls
 pub mod Tree
 pub mod Sessions
 pub mod Stale
 pub mod Lawful
 pub mod Room
+pub mod Counts
 pub mod Laws
 pub mod support

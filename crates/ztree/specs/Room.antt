@@ -8,7 +8,9 @@ use Rattle.ztree.specs.Tree.{Tree, Path, Nodes, parent_of, ephemerals}
 
 -- every counter of the node can rise by one
 abbrev pub HasRoom : Node → Type 0
-HasRoom n = (n.version + 1 < COUNTER_BOUND) × (n.cversion + 1 < COUNTER_BOUND) × (n.seq + 1 < COUNTER_BOUND)
+HasRoom n =
+    (n.version + 1 < COUNTER_BOUND) × (n.cversion + 1 < COUNTER_BOUND) × (n.seq + 1 < COUNTER_BOUND)
+    × (n.aversion + 1 < COUNTER_BOUND)
 
 -- the counters that a new child raises can rise
 abbrev pub HasRoomForChild : Bool → Node → Type 0
@@ -21,6 +23,10 @@ HasRoomForLosses losses n = n.cversion + losses < COUNTER_BOUND
 -- the counter that a write of data raises can rise
 abbrev pub HasRoomForData : Node → Type 0
 HasRoomForData n = n.version + 1 < COUNTER_BOUND
+
+-- the counter that a write of the access control list raises can rise
+abbrev pub HasRoomForAcl : Node → Type 0
+HasRoomForAcl n = n.aversion + 1 < COUNTER_BOUND
 
 -- the parent of the path, if it exists, has the property
 abbrev pub AtParent : Nodes → Path → (Node → Type 0) → Type 0

@@ -1,7 +1,8 @@
 -- The plain tree: the state of the sequential specification. Every call of every layer is specified
 -- on it. The source is the ZooKeeper Programmer's Guide, "The ZooKeeper Data Model" ("ZNodes",
--- "ZooKeeper Stat Structure", "Time in ZooKeeper"). Ticks, the counter of a node, and zxids as a
--- plain counter are this project's profile.
+-- "ZooKeeper Stat Structure", "Time in ZooKeeper"). "ZooKeeper access control using
+-- ACLs" has `aversion`. Ticks, the counter of a node, and zxids as a plain counter are this
+-- project's profile.
 use Rattle.std.specs.Prelude.{ℕ, ◌+◌, Bool, List, [], ◌∷◌, length, Option, None, Some, if◌then◌else◌, is_some, ◌==◌}
 use Rattle.std.specs.Option.{option_map, option_map_or}
 use Rattle.std.specs.Ordering.{nat_cmp}
@@ -11,6 +12,8 @@ use Rattle.std.specs.List.{filter_map}
 use Rattle.std.specs.Str.{bytes_eq}
 use Rattle.zpath.specs.Grammar.{path_cmp}
 use Rattle.ztree.specs.declared.limits.TheConstants.{CONTAINER_OWNER}
+use Rattle.ztree.specs.declared.limits.TreeLimits.{TreeLimits}
+use Rattle.ztree.specs.Limits.{profile}
 use Rattle.ztree.specs.declared.term.Term.{Term}
 use Rattle.ztree.specs.declared.term.Term.TheVariants.{Unlimited, Timed, Container}
 use Rattle.ztree.specs.declared.node.Node.{Node}
@@ -33,12 +36,13 @@ Nodes = FinMap path_cmp Node
 abbrev pub Sessions : Type 0
 Sessions = FinMap nat_cmp Session
 
--- the tree: znodes, sessions, the clock in ticks, and the zxid of the last change
+-- the tree: znodes, sessions, the clock in ticks, the zxid of the last change, and its limits
 pub record Tree : Type 0 where
   pub nodes : Nodes
   pub sessions : Sessions
   pub time : ℕ
   pub zxid : ℕ
+  pub limits : TreeLimits
 
 -- a new node: its data, its owner (0: none), its term, the zxid and the tick of its creation
 abbrev pub new_node : List ℕ → ℕ → Term → ℕ → ℕ → Node
@@ -52,14 +56,26 @@ new_node bytes owner term z time =
       mtime = time;
       version = 0;
       cversion = 0;
+      aversion = 0;
       owner = owner;
       seq = 0;
       term = term;
     }
 
--- the initial state: only the root, with no data and all zeros, and no session
+-- the initial state within these limits: only the root, with no data and all zeros, and no session
+abbrev pub opening_within : TreeLimits → Tree
+opening_within limits =
+    record {
+      nodes = insert finite.empty [] (new_node [] 0 Unlimited 0 0);
+      sessions = finite.empty;
+      time = 0;
+      zxid = 0;
+      limits = limits;
+    }
+
+-- the initial state within the limits of this project's profile
 abbrev pub opening_tree : Tree
-opening_tree = record { nodes = insert finite.empty [] (new_node [] 0 Unlimited 0 0); sessions = finite.empty; time = 0; zxid = 0 }
+opening_tree = opening_within profile
 
 -- the path without its last name; the root is its own parent
 abbrev pub parent_of : Path → Path
@@ -105,6 +121,7 @@ stat_with n children =
       mtime = n.mtime;
       version = n.version;
       cversion = n.cversion;
+      aversion = n.aversion;
       owner = shown_by n.owner n.term;
       length = length n.bytes;
       children = children;
@@ -153,6 +170,14 @@ with_data bytes z time n = record n { bytes = bytes; mzxid = z; mtime = time; ve
 -- the tree after the next change writes the data of the node at the path
 abbrev pub with_data_at : Tree → Path → List ℕ → Tree
 with_data_at t path bytes = record t { nodes = with_change_at t.nodes path (with_data bytes (t.zxid + 1) t.time) }
+
+-- the node after a write of its access control list, which stays the open one
+abbrev pub with_acl : Node → Node
+with_acl n = record n { aversion = n.aversion + 1 }
+
+-- the tree after a write of the access control list of the node at the path
+abbrev pub with_acl_at : Tree → Path → Tree
+with_acl_at t path = record t { nodes = with_change_at t.nodes path with_acl }
 
 -- the tree with the zxid one higher
 abbrev pub with_next_zxid : Tree → Tree

@@ -2,6 +2,7 @@
 //!
 //! Every call of every layer is specified on these definitions:
 //!
+//! - `specs/Limits.antt`: the limits of a tree.
 //! - `specs/Tree.antt`: the znodes.
 //! - `specs/Sessions.antt`: the sessions.
 //! - `specs/Stale.antt`: the znodes that a tick removes.
@@ -32,7 +33,10 @@ mod ttl;
 mod zxid;
 
 pub use client::ClientId;
-pub use limits::{CONTAINER_OWNER, MAX_DATA, MAX_NODES, MAX_SESSIONS, MAX_TTL};
+pub use limits::{
+    CONTAINER_OWNER, MAX_DATA, MAX_NODES, MAX_SESSIONS, MAX_TTL, MOST_DATA, MOST_NODES,
+    MOST_SESSIONS, MOST_TIMEOUT, TreeLimits,
+};
 pub use node::{Node, Stat};
 pub use node_data::{Data, DataFault};
 pub use session::Session;

@@ -25,6 +25,8 @@ pub struct Node {
     pub version: u64,
     /// The number of times a child was created or removed.
     pub cversion: u64,
+    /// The number of writes of its access control list.
+    pub aversion: u64,
     /// The id of the session that owns it, or 0 for a persistent node.
     pub owner: u64,
     /// The number that the next sequential create beneath it appends to the name.
@@ -33,8 +35,8 @@ pub struct Node {
     pub term: Term,
 }
 
-/// A node's stat: the stat structure of the ZooKeeper Programmer's Guide, in the guide's order.
-/// There is no `aversion`, since a node has no access control list.
+/// A node's stat: the stat structure of the ZooKeeper Programmer's Guide. The access control list of
+/// every node is the open one, so a write of it is only counted.
 #[derive(Clone, Copy, Debug, PartialEq, Eq)]
 pub struct Stat {
     /// The zxid of the change that created the node.
@@ -51,6 +53,8 @@ pub struct Stat {
     pub version: u64,
     /// The number of times a child was created or removed.
     pub cversion: u64,
+    /// The number of writes of its access control list.
+    pub aversion: u64,
     /// The id of the session that owns it; 2^63 for a container, or 0 for any other node.
     pub owner: u64,
     /// The size of its data, in bytes.
@@ -78,6 +82,7 @@ impl Node {
             mtime: time,
             version: 0,
             cversion: 0,
+            aversion: 0,
             owner,
             seq: 0,
             term,
@@ -96,6 +101,7 @@ impl Node {
             mtime: self.mtime,
             version: self.version,
             cversion: self.cversion,
+            aversion: self.aversion,
             owner: self.term.shown_owner(self.owner),
             length: self.bytes.as_slice().len() as u64,
             children,
@@ -127,6 +133,7 @@ impl Node {
             mtime: self.mtime,
             version: self.version,
             cversion: self.cversion,
+            aversion: self.aversion,
             owner: self.owner,
             seq: self.seq,
             term: self.term,

@@ -2,11 +2,15 @@
 
 ghost use Rattle.std.specs.Prelude.{◌≡◌, [], ◌∷◌, None, Some, true, false};
 ghost use Rattle.ztree.specs.declared.limits.TheConstants.{MAX_DATA, MAX_NODES, MAX_SESSIONS, MAX_CLIENTS, MAX_TTL, CONTAINER_OWNER};
+ghost use Rattle.ztree.specs.declared.limits.TheConstants.{MIN_TIMEOUT, MAX_TIMEOUT, MOST_DATA, MOST_NODES, MOST_SESSIONS, MOST_TIMEOUT};
 ghost use Rattle.ztree.specs.declared.term.Term.TheVariants.{Unlimited, Timed, Container};
 ghost use Rattle.ztree.specs.declared.limits.TheConstants.{ZXID_BOUND, TICK_BOUND, COUNTER_BOUND, DEADLINE_BOUND};
 ghost use Rattle.std.specs.FinMap as finite;
 ghost use Rattle.ztree.specs.Tree.{parent_of, child_name, stat_with};
-ghost use Rattle.ztree.specs.Tree.{with_child, without_child, with_data, new_node, without_node};
+ghost use Rattle.ztree.specs.Limits.{AreLimits, profile};
+ghost use Rattle.ztree.specs.Counts.{owned_count, data_count};
+ghost use Rattle.ztree.specs.Tree.{opening_tree, opening_within};
+ghost use Rattle.ztree.specs.Tree.{with_child, without_child, with_data, with_acl, new_node, without_node};
 ghost use Rattle.ztree.specs.Sessions.{new_session, renewed_session};
 ghost use Rattle.ztree.specs.Stale.{may_end, is_due, stale_nodes};
 ghost use Rattle.ztree.specs.Lawful.{HasPaths};
@@ -32,6 +36,30 @@ pub fn changes_of_a_node()
     ensures sequential { with_child 20 true some_node ≡ after_numbered_child 20 }
     ensures loss { without_child 20 some_node ≡ after_change 20 }
     ensures data { with_data b 20 21 some_node ≡ written_node }
+    ensures acl { with_acl some_node ≡ record some_node { aversion = 14 } }
+{}
+
+/// Limits that a tree can have, and those that it can't: no room for the root, and too much of each.
+/// The initial state has those that were chosen.
+pub fn limits_of_trees()
+    ensures profile { AreLimits profile }
+    ensures least { AreLimits (record { nodes = 1; sessions = 0; timeout = 2 }) }
+    ensures most { AreLimits
+        (record { nodes = 2097152; sessions = 1048576; timeout = 1048576 }) }
+    ensures no_nodes { AreLimits (record profile { nodes = 0 }) → ⊥ }
+    ensures nodes { AreLimits (record profile { nodes = 2097153 }) → ⊥ }
+    ensures sessions { AreLimits (record profile { sessions = 1048577 }) → ⊥ }
+    ensures short { AreLimits (record profile { timeout = 1 }) → ⊥ }
+    ensures long { AreLimits (record profile { timeout = 1048577 }) → ⊥ }
+    ensures opening { opening_tree.limits ≡ record { nodes = 4096; sessions = 1024; timeout = 20 } }
+    ensures chosen { (opening_within (record profile { nodes = 7 })).limits.nodes ≡ 7 }
+{}
+
+/// The number of ephemerals and the bytes of data of two nodes.
+pub fn counts()
+    ensures owned { owned_count two_nodes.nodes ≡ 2 }
+    ensures no_owner { owned_count (with_container container).nodes ≡ 0 }
+    ensures data { data_count two_nodes.nodes ≡ 4 }
 {}
 
 /// When a TTL has expired, and which of two such nodes a tick removes: the one without a child.
@@ -95,6 +123,12 @@ pub fn limits_are_numbers()
     ensures data { MAX_DATA ≡ 65536 }
     ensures nodes { MAX_NODES ≡ 4096 }
     ensures sessions { MAX_SESSIONS ≡ 1024 }
+    ensures least_timeout { MIN_TIMEOUT ≡ 2 }
+    ensures greatest_timeout { MAX_TIMEOUT ≡ 20 }
+    ensures most_data { MOST_DATA ≡ 1048487 }
+    ensures most_nodes { MOST_NODES ≡ 2097152 }
+    ensures most_sessions { MOST_SESSIONS ≡ 1048576 }
+    ensures most_timeout { MOST_TIMEOUT ≡ 1048576 }
     ensures clients { MAX_CLIENTS ≡ 32 }
     ensures ttls { MAX_TTL ≡ 1048576 }
     ensures containers { CONTAINER_OWNER ≡ 9223372036854775808 }

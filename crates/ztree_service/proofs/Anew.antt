@@ -171,8 +171,8 @@ module _ (t : Tree) (settled : IsSettled t) where
   pub root_there : (root : Node) × (get t.nodes [] ≡ Some root)
   root_there = (restored.root, all_nodes.0)
 
-  pub can_begin : (root : Node) → get t.nodes [] ≡ Some root → CanBegin root t.time t.zxid 0
-  can_begin root got = subst (λ (n : Node). CanBegin n t.time t.zxid 0) (root_is root got) restored.can_begin
+  pub can_begin : (root : Node) → get t.nodes [] ≡ Some root → CanBegin root t.time t.zxid 0 t.limits
+  can_begin root got = subst (λ (n : Node). CanBegin n t.time t.zxid 0 t.limits) (root_is root got) restored.can_begin
 
   pub paths_are : keys t.nodes ≡ [] ∷ map (λ (e : Path × Node). e.0) restored.rows
   paths_are = ap (map (λ (e : Path × Node). e.0)) restored.listed
@@ -186,11 +186,11 @@ module _ (t : Tree) (settled : IsSettled t) where
 
   module _ (root : Node) (got : get t.nodes [] ≡ Some root) where
     abbrev pub rooted : MachineState
-    rooted = rooted_machine root t.time t.zxid 0
+    rooted = rooted_machine root t.time t.zxid 0 t.limits
 
     pub sessions_can : CanPutAllGranted rooted.service.plain (entries t.sessions)
     sessions_can =
-        subst (λ (n : Node). CanPutAllGranted (rooted_machine n t.time t.zxid 0).service.plain (entries t.sessions))
+        subst (λ (n : Node). CanPutAllGranted (rooted_machine n t.time t.zxid 0 t.limits).service.plain (entries t.sessions))
         (root_is root got) restored.can_sessions
 
     pub nodes_all : (now : MachineState) (paths : List Path) → now ≡ with_plain rooted (with_session_rows rooted.service.plain (entries t.sessions))
@@ -198,8 +198,8 @@ module _ (t : Tree) (settled : IsSettled t) where
     nodes_all now paths is named =
         let more : paths ≡ map (λ (e : Path × Node). e.0) restored.rows = cc (named ∙ paths_are) in
         subst (λ (m : MachineState). NodesAreLeft t m paths)
-        (sym (is ∙ ap (λ (n : Node). with_plain (rooted_machine n t.time t.zxid 0)
-        (with_session_rows (rooted_machine n t.time t.zxid 0).service.plain (entries t.sessions))) (sym (root_is root got))))
+        (sym (is ∙ ap (λ (n : Node). with_plain (rooted_machine n t.time t.zxid 0 t.limits)
+        (with_session_rows (rooted_machine n t.time t.zxid 0 t.limits).service.plain (entries t.sessions))) (sym (root_is root got))))
         (record {
           rows = restored.rows;
           named = more;

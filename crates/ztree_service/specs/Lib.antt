@@ -1,4 +1,5 @@
 pub mod log
 pub mod Machines
+pub mod Sizes
 pub mod Local
 pub mod support

@@ -36,13 +36,15 @@ fn rooted(alloc: Global, machine: &Machine) -> Result<Restoring, Memory>
     requires whole { machine.now.is_broken ≡ false }
     requires settled { IsSettled (tree_in machine.now) }
     ensures { IfOk result (λ r. (root : Node) × (get (tree_in machine.now).nodes [] ≡ Some root)
-        × (r ≡ rooted_machine root (tree_in machine.now).time (tree_in machine.now).zxid 0)) }
+        × (r ≡ rooted_machine root (tree_in machine.now).time (tree_in machine.now).zxid 0
+        (tree_in machine.now).limits)) }
 {
     let Some(root) = machine.node(&Path::root()) else {
         unreachable!()
     };
     let root = root.copied()?;
-    match Restoring::new(alloc, root, machine.time(), machine.zxid(), 0) {
+    let limits = machine.limits();
+    match Restoring::new(alloc, root, machine.time(), machine.zxid(), 0, limits) {
         Ok(restoring) => Ok(restoring),
         Err(fault) => Err(memory(fault)),
     }

@@ -5,22 +5,26 @@
 //! A session belongs to the client that opened it. All calls are client 0's, each under the next
 //! number, and the front distinguishes sessions itself.
 
-ghost use Rattle.std.specs.Prelude.{◌≡◌, true, false, IfOk, IsErr, OnErr, OnOk};
-ghost use Rattle.ztree.specs.Tree.{opening_tree};
+ghost use Rattle.std.specs.Prelude.{◌≡◌, true, false, IfOk, IfErr, IsErr, OnErr, OnOk};
+ghost use Rattle.ztree.specs.Limits.{AreLimits};
+ghost use Rattle.ztree.specs.Tree.{opening_tree, opening_within};
 ghost use Rattle.zcalls.specs.declared.call.Call.TheVariants.{Update as Called};
 ghost use Rattle.zprotocol.specs.world.FromTree.{CanStart};
 ghost use Rattle.zprotocol.specs.world.PlainTree.{serve};
+ghost use Rattle.zstore.specs.Limiting.{IsFaultOf};
+ghost use Rattle.zstore.specs.Restored.{with_limits, FitsWithin};
 ghost use Rattle.ztree_service.specs.Machines.{tree_in, IsBare};
 
+use crate::counts::Counts;
 use crate::service::TreeService;
 use crate::step::step;
 use std::alloc::Global;
 use std::marker::Model;
 use zalloc::Memory;
 use zcalls::{Query, Reply, Update};
-use zops::Machine;
+use zops::{LimitFault, Machine};
 use zpath::Path;
-use ztree::{Session, SessionId, Zxid};
+use ztree::{Session, SessionId, TreeLimits, Zxid};
 
 /// A tree in memory, which serves calls.
 ///
@@ -48,11 +52,21 @@ impl Model for LocalTree {
 }
 
 impl LocalTree {
-    /// Makes the initial tree, which has no session.
+    /// Makes the initial tree of the profile, which has no session.
     pub fn new(alloc: Global) -> Result<LocalTree, Memory>
         ensures { IfOk result (λ t. t ≡ record { tree = opening_tree; is_broken = false }) }
     {
         let machine = Machine::new(alloc)?;
+        Ok(LocalTree::of(alloc, machine))
+    }
+
+    /// Makes the initial tree within these limits, which has no session.
+    pub fn within(alloc: Global, limits: TreeLimits) -> Result<LocalTree, Memory>
+        requires { AreLimits limits }
+        ensures { IfOk result
+            (λ t. t ≡ record { tree = opening_within limits; is_broken = false }) }
+    {
+        let machine = Machine::within(alloc, limits)?;
         Ok(LocalTree::of(alloc, machine))
     }
 
@@ -101,6 +115,27 @@ impl LocalTree {
         Ok(&self.machine)
     }
 
+    /// Returns the limits of its tree; or `Memory`.
+    pub fn limits(&self) -> Result<TreeLimits, Memory>
+        ensures limits { IfOk result (λ limits. limits ≡ self.now.tree.limits) }
+        ensures allowed { IfOk result AreLimits }
+    {
+        Ok(self.machine()?.limits())
+    }
+
+    /// Sets the limits of its tree. Refuses limits within which the tree doesn't fit, and says
+    /// which one and what it needs. If they are refused, nothing has changed.
+    pub fn set_limits(&mut self, limits: TreeLimits) -> Result<(), LimitFault>
+        requires whole { self.old.is_broken ≡ false }
+        ensures set { OnOk result
+            (self.new ≡ record self.old { tree = with_limits self.old.tree limits }) }
+        ensures fits { OnOk result (FitsWithin self.old.tree limits) }
+        ensures fault { IfErr result (IsFaultOf self.old.tree limits) }
+        ensures err { OnErr result (self.new ≡ self.old) }
+    {
+        self.machine.set_limits(limits)
+    }
+
     /// A lemma for the caller's proof: a service can begin with this tree. The function does
     /// nothing.
     pub fn keeps_held(&self)
@@ -136,5 +171,27 @@ impl TreeService for LocalTree {
 
     fn session_ids(&self) -> Result<Vec<SessionId>, Memory> {
         self.machine()?.session_ids()
+    }
+
+    fn due(&self) -> Result<Vec<SessionId>, Memory> {
+        self.machine()?.due()
+    }
+
+    fn stale(&self) -> Result<Vec<Path>, Memory> {
+        self.machine()?.stale()
+    }
+
+    fn owned(&self, session: SessionId) -> Result<Vec<Path>, Memory> {
+        self.machine()?.owned(session)
+    }
+
+    fn counts(&self) -> Result<Counts, Memory> {
+        let machine = self.machine()?;
+        Ok(Counts {
+            nodes: machine.nodes(),
+            sessions: machine.sessions(),
+            owned: machine.owned_count(),
+            bytes: machine.data_count(),
+        })
     }
 }

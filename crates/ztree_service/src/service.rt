@@ -10,8 +10,11 @@ ghost use Rattle.std.specs.FinMap.{get, keys};
 ghost use Rattle.ztree.specs.Tree.{Tree};
 ghost use Rattle.zcalls.specs.Step.{query_reply};
 ghost use Rattle.zcalls.specs.declared.call.Call.TheVariants.{Update as Called};
+ghost use Rattle.zcalls.specs.Step.{due_next, stale_next};
 ghost use Rattle.zprotocol.specs.world.PlainTree.{serve};
+ghost use Rattle.ztree_service.specs.Sizes.{counts_of, owned_by};
 
+use crate::counts::Counts;
 use zalloc::Memory;
 use zcalls::{Query, Reply, Update};
 use zpath::Path;
@@ -49,4 +52,23 @@ pub trait TreeService {
     /// Returns the ids of all sessions, in order.
     fn session_ids(&self) -> Result<Vec<SessionId>, Memory>
         ensures { IfOk result (λ ids. ids.items ≡ keys (tree self.now).sessions) };
+
+    /// Returns the ids of the sessions that the next tick ends, in order. The cost depends on the
+    /// number of sessions.
+    fn due(&self) -> Result<Vec<SessionId>, Memory>
+        ensures { IfOk result (λ ids. ids.items ≡ due_next (tree self.now)) };
+
+    /// Returns the paths of the nodes that the next tick removes as stale, in order. The cost
+    /// depends on the number of containers and nodes with a TTL.
+    fn stale(&self) -> Result<Vec<Path>, Memory>
+        ensures { IfOk result (λ paths. paths.items ≡ stale_next (tree self.now)) };
+
+    /// Returns the paths of the nodes that a session owns, in order. A session that isn't there
+    /// owns none. The cost depends on the number of these nodes.
+    fn owned(&self, session: SessionId) -> Result<Vec<Path>, Memory>
+        ensures { IfOk result (λ paths. paths.items ≡ owned_by (tree self.now) session) };
+
+    /// Returns the size of the tree.
+    fn counts(&self) -> Result<Counts, Memory>
+        ensures { IfOk result (λ counts. counts ≡ counts_of (tree self.now)) };
 }

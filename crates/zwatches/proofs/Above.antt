@@ -1,13 +1,14 @@
 -- The positions of the recursive watches above a path, one after the other.
-use Rattle.std.proofs.Common.{◌≡◌, ℕ, zero, suc, ◌+◌, ◌<◌, ◌≤◌, Bool, ◌||◌, List, [], ◌∷◌, ◌++◌, length, map, take, drop, refl, sym, ap, ◌∙◌, add-one, append_assoc, arith}
-use Rattle.std.specs.List.{filter, list_any}
+use Rattle.std.proofs.Common.{◌≡◌, ℕ, zero, suc, ◌+◌, ◌<◌, ◌≤◌, Bool, true, false, ◌||◌, List, [], ◌∷◌, length, map, take, drop, refl, sym, ap, ◌∙◌, add-one, arith}
+use Rattle.std.specs.List.{list_any}
+use Rattle.std.specs.FinSet.{contains}
 use Rattle.std.proofs.Math.Bool.{or-false}
-use Rattle.std.proofs.lemmas.List.{append-nil, drop-map}
+use Rattle.std.proofs.lemmas.List.{drop-map}
 use Rattle.zwatches.specs.declared.kind.Kind.TheVariants.{Recursive}
 use Rattle.zwatches.specs.declared.watch.Watch.{Watch}
-use Rattle.zwatches.specs.Watches.{Path, Place, place}
+use Rattle.zwatches.specs.Watches.{Path, Watches, place, watch}
 use Rattle.zwatches.specs.Events.{above, from_root, is_at}
-use Rattle.zwatches.specs.support.Groups.{found_by, reported_by}
+use Rattle.zwatches.specs.support.Groups.{found_by, waits_at}
 
 root_step : (path : Path) (i : ℕ) → i < length path → drop i (from_root path) ≡ take i path ∷ drop (suc i) (from_root path)
 root_step [] i less = absurd (omega (arith, less))
@@ -49,24 +50,24 @@ pub found_last : (rows : List Watch) (path : Path) (i : ℕ) → length path ≤
 found_last rows path i end within b is =
     is ∙ sym (or-false (list_any (is_at (place path Recursive)) rows)) ∙ ap (found_by rows) (sym (above_last path i end within))
 
--- ---- the connections of their rows
+-- ---- who waits at them
 
--- the connections of the rows at a position
-abbrev pub told_at : List Watch → Place → List ℕ
-told_at rows at = map (λ w. w.connection) (filter (is_at at) rows)
-
-pub told_more : (rows : List Watch) (path : Path) (i : ℕ) → i < length path → (old new all : List ℕ) → new ≡ old ++ told_at rows (place (take i path) Recursive)
-    → old ++ reported_by rows (drop i (above path)) ≡ all → new ++ reported_by rows (drop (i + 1) (above path)) ≡ all
-told_more rows path i less old new all is so_far =
-    ap (λ xs. xs ++ reported_by rows (drop (i + 1) (above path))) is
-    ∙ append_assoc old (told_at rows (place (take i path) Recursive)) (reported_by rows (drop (i + 1) (above path)))
-    ∙ ap (λ places. old ++ reported_by rows places) (sym (above_step path i less))
+pub waits_more : (table : Watches) (path : Path) (i : ℕ) → i < length path → (q : ℕ) (old new all : Bool)
+    → new ≡ (old || waits_at table (place (take i path) Recursive ∷ []) q)
+    → (old || waits_at table (drop i (above path)) q) ≡ all → (new || waits_at table (drop (i + 1) (above path)) q) ≡ all
+waits_more table path i less q old new all is so_far =
+    ap (λ b. b || waits_at table (drop (i + 1) (above path)) q) is
+    ∙ joined old (contains table (watch (take i path) Recursive q)) (waits_at table (drop (i + 1) (above path)) q)
+    ∙ ap (λ places. old || waits_at table places q) (sym (above_step path i less))
     ∙ so_far
+  where
+    joined : (a b c : Bool) → ((a || (b || false)) || c) ≡ (a || (b || c))
+    joined true b c = refl
+    joined false true c = refl
+    joined false false c = refl
 
-pub told_last : (rows : List Watch) (path : Path) (i : ℕ) → length path ≤ i → i ≤ length path → (old new all : List ℕ) → new ≡ old ++ told_at rows (place path Recursive)
-    → old ++ reported_by rows (drop i (above path)) ≡ all → new ≡ all
-told_last rows path i end within old new all is so_far =
-    is
-    ∙ ap (λ xs. old ++ xs) (sym (append-nil (told_at rows (place path Recursive))))
-    ∙ ap (λ places. old ++ reported_by rows places) (sym (above_last path i end within))
-    ∙ so_far
+pub waits_last : (table : Watches) (path : Path) (i : ℕ) → length path ≤ i → i ≤ length path → (q : ℕ) (old new all : Bool)
+    → new ≡ (old || waits_at table (place path Recursive ∷ []) q)
+    → (old || waits_at table (drop i (above path)) q) ≡ all → new ≡ all
+waits_last table path i end within q old new all is so_far =
+    is ∙ ap (λ places. old || waits_at table places q) (sym (above_last path i end within)) ∙ so_far

@@ -1,32 +1,21 @@
--- How many of a table's watches pass a test, and how many a connection has of a table of rows.
+-- How many of a table's watches pass a test.
 use Rattle.std.proofs.Common.{◌≡◌, ℕ, ◌+◌, ◌≤◌, Bool, true, false, cond, not, ◌&&◌, ◌||◌, eqb, leb, List, [], ◌∷◌, refl, sym, ap, subst, ◌∙◌, arith}
 use Rattle.std.specs.List.{filter, list_any}
-use Rattle.std.specs.List.Sorted.{IsStrictlySortedBy}
 use Rattle.std.specs.Ordering.{eq_by_cmp}
 use Rattle.std.specs.Cmp.{Equal-is}
 use Rattle.std.specs.FinSet.{contains, empty, from_list, insert, items, len, retain, contains-empty, contains-from_list, contains-insert, contains-items, contains-retain, len-empty, len-insert, same_set}
-use Rattle.std.proofs.lemmas.List.Kept.{IsStrictlySortedBy-filter}
-use Rattle.std.proofs.lemmas.List.Sums.{length-filter}
 use Rattle.zwatches.specs.declared.watch.Watch.{Watch}
 use Rattle.zwatches.specs.declared.limits.WatchLimits.{WatchLimits}
 use Rattle.zwatches.specs.Watches.{Watches, is_full, share, watch_cmp}
-use Rattle.zwatches.specs.support.Shares.{count_of}
 use Rattle.zwatches.proofs.Order.{watches_total, same_watch}
-use Rattle.zwatches.proofs.Sets.{from_list-filter, insert_again, len-from_list}
-
--- of a table of rows
-pub share-rows : (rows : List Watch) (c : ℕ) → IsStrictlySortedBy watch_cmp rows → share (from_list rows) c ≡ count_of c rows
-share-rows rows c sorted =
-    ap len (sym (from_list-filter watches_total same_watch (λ w. eqb w.connection c) rows))
-    ∙ len-from_list watches_total (filter (λ w. eqb w.connection c) rows) (IsStrictlySortedBy-filter watch_cmp (λ w. eqb w.connection c) rows sorted)
-    ∙ length-filter (λ w. eqb w.connection c) rows
+use Rattle.zwatches.proofs.Sets.{from_list-filter, insert_again}
 
 -- ---- tables that grow by one watch after the other
 
 tied : (x y : Watch) → eq_by_cmp watch_cmp x y ≡ true → x ≡ y
 tied x y e = same_watch x y ((Equal-is (watch_cmp x y)).0 e)
 
-of_items : (table : Watches) → table ≡ from_list (items table)
+pub of_items : (table : Watches) → table ≡ from_list (items table)
 of_items table = same_set watches_total same_watch _ _ (λ q. contains-items table q ∙ sym (contains-from_list watches_total (items table) q))
 
 -- what holds of the empty table, and of a table with one watch more, holds of all

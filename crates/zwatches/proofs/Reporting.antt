@@ -1,14 +1,16 @@
--- Whom the rows of several positions notify, and the rows without them.
-use Rattle.std.proofs.Common.{◌≡◌, ℕ, Bool, true, false, cond, eqb, not, ◌&&◌, ◌||◌, List, [], ◌∷◌, map, refl, sym, ap, subst, ◌∙◌}
-use Rattle.std.specs.Ordering.{eq_by_cmp, nat_cmp}
+-- Whom the watches at several positions notify.
+use Rattle.std.proofs.Common.{◌≡◌, ℕ, Bool, true, false, cond, eqb, ◌&&◌, ◌||◌, List, [], ◌∷◌, ◌++◌, map, refl, sym, ap, subst, ◌∙◌}
+use Rattle.std.specs.declared.cmp.Ordering.{Ordering}
+use Rattle.std.specs.declared.cmp.Ordering.TheVariants.{Less, Equal, Greater}
+use Rattle.std.specs.Ordering.{eq_by_cmp, is_eq, nat_cmp, ordering_then}
 use Rattle.std.specs.Cmp.{Equal-is, both_ways, eq_by_cmp_equiv}
 use Rattle.std.specs.List.{filter, list_any, dedup}
-use Rattle.std.specs.List.Sorted.{IsStrictlySortedBy, IsSorted, IsPermutation}
-use Rattle.std.specs.FinSet.{items, from_list, retain}
+use Rattle.std.specs.List.Sorted.{IsSorted, IsPermutation}
+use Rattle.std.specs.FinSet.{FinSet, contains, items, from_list, retain, contains-from_list, contains-items, same_set}
 use Rattle.std.specs.FinMap.{nat_cmp-IsAntisymmetric}
 use Rattle.std.proofs.lemmas.Cmp.{nat_cmp_total}
 use Rattle.std.proofs.lemmas.List.Folds.{list_any-append}
-use Rattle.std.proofs.lemmas.List.Kept.{IsStrictlySortedBy-filter, Contains-dedup_nat, Contains-from_dedup}
+use Rattle.std.proofs.lemmas.List.Kept.{Contains-dedup_nat, Contains-from_dedup}
 use Rattle.std.proofs.lemmas.List.Sorted.{list_any-IsPermutation}
 use Rattle.std.proofs.lemmas.Map.Keys.{IsStrictlyIncreasing-dedup, sorted_from_strictly_increasing}
 use Rattle.std.proofs.lemmas.Map.Views.{Contains-from_any, list_any-from_Contains}
@@ -19,44 +21,19 @@ use Rattle.zwatches.specs.declared.kind.Kind.{Kind}
 use Rattle.zwatches.specs.declared.kind.Kind.TheVariants.{Data, Missing, Children, EachData, EachChildren, Recursive}
 use Rattle.zwatches.specs.Watches.{Place}
 use Rattle.zwatches.specs.declared.watch.Watch.{Watch}
-use Rattle.zwatches.specs.Watches.{Path, fires_once, place, place_of, watch_cmp}
-use Rattle.zwatches.specs.Events.{is_at, is_awaited, ends, fired_at, fires, from_root, reported, unfired, without, Lists}
-use Rattle.zwatches.specs.Removal.{has_meant, is_meant, without_meant}
-use Rattle.zwatches.specs.support.Groups.{reported_by, found_by, kept, once_at}
-use Rattle.zwatches.proofs.Order.{watches_total, same_place, same_watch}
+use Rattle.zwatches.specs.Watches.{Path, Watches, fires_once, place, place_cmp, place_of, watch, watch_cmp}
+use Rattle.zwatches.specs.Events.{is_at, is_awaited, ends, fired_at, fires, from_root, reported, Lists}
+use Rattle.zwatches.specs.Removal.{has_meant, is_meant}
+use Rattle.zwatches.specs.support.Groups.{AddsWaiting, reported_by, found_by, once_at, waits_at}
+use Rattle.zwatches.proofs.Kept.{of_items}
+use Rattle.zwatches.proofs.Order.{places_total, watches_total, same_place, same_watch}
 use Rattle.zwatches.proofs.Sets.{from_list-filter, any-items, same_list}
 
--- ---- the rows that stay
+-- ---- tests that answer the same
 
-filter_step : {X : Type 0} (p : X → Bool) (b : Bool) (x : X) (ys zs : List X) → filter p ys ≡ zs → filter p (cond b (x ∷ ys) ys) ≡ cond (b && p x) (x ∷ zs) zs
-filter_step {X} p true x ys zs e = ap (λ (vs : List X). cond (p x) (x ∷ vs) vs) e
-filter_step p false x ys zs e = e
-
-filter_filter : {X : Type 0} (p q : X → Bool) (xs : List X) → filter p (filter q xs) ≡ filter (λ x. q x && p x) xs
-filter_filter p q [] = refl
-filter_filter p q (x ∷ xs) = filter_step p (q x) x (filter q xs) (filter (λ x. q x && p x) xs) (filter_filter p q xs)
-
-not_or : (a b : Bool) → (not a && not b) ≡ not (a || b)
-not_or true b = refl
-not_or false b = refl
-
-filter_same : {X : Type 0} (p q : X → Bool) → ((x : X) → p x ≡ q x) → (xs : List X) → filter p xs ≡ filter q xs
+pub filter_same : {X : Type 0} (p q : X → Bool) → ((x : X) → p x ≡ q x) → (xs : List X) → filter p xs ≡ filter q xs
 filter_same p q same [] = refl
 filter_same p q same (x ∷ xs) = rw (same x, filter_same p q same xs) refl
-
-filter_true : {X : Type 0} (xs : List X) → filter (λ _. true) xs ≡ xs
-filter_true [] = refl
-filter_true (x ∷ xs) = ap (λ ys. x ∷ ys) (filter_true xs)
-
-pub kept_is : (rows : List Watch) (places : List Place) → kept rows places ≡ filter (λ w. not (list_any (λ at. is_at at w) places)) rows
-kept_is rows [] = sym (filter_true rows)
-kept_is rows (at ∷ places) =
-    kept_is (filter (λ w. not (is_at at w)) rows) places
-    ∙ filter_filter (λ w. not (list_any (λ at. is_at at w) places)) (λ w. not (is_at at w)) rows
-    ∙ filter_same _ _ (λ w. not_or (is_at at w) (list_any (λ at. is_at at w) places)) rows
-
-pub kept_sorted : (rows : List Watch) (test : Watch → Bool) → IsStrictlySortedBy watch_cmp rows → IsStrictlySortedBy watch_cmp (filter test rows)
-kept_sorted rows test sorted = IsStrictlySortedBy-filter watch_cmp test rows sorted
 
 -- ---- the connections of the others
 
@@ -72,11 +49,15 @@ pub any_map : {X Y : Type 0} (p : Y → Bool) (f : X → Y) (xs : List X) → li
 any_map p f [] = refl
 any_map p f (x ∷ xs) = ap (λ b. p (f x) || b) (any_map p f xs)
 
+pub any_same : {X : Type 0} (p q : X → Bool) → ((x : X) → p x ≡ q x) → (xs : List X) → list_any p xs ≡ list_any q xs
+any_same p q same [] = refl
+any_same p q same (x ∷ xs) = (λ i. same x i || any_same p q same xs i)
+
 any_step : {X : Type 0} (p : X → Bool) (b : Bool) (x : X) (ys : List X) (found : Bool) → list_any p ys ≡ found → list_any p (cond b (x ∷ ys) ys) ≡ ((p x && b) || found)
 any_step p true x ys found e = rw e (ap (λ b. b || found) (and_true (p x)))
 any_step p false x ys found e = e ∙ ap (λ b. b || found) (sym (and_false (p x)))
 
-any_filter : {X : Type 0} (p q : X → Bool) (xs : List X) → list_any p (filter q xs) ≡ list_any (λ x. p x && q x) xs
+pub any_filter : {X : Type 0} (p q : X → Bool) (xs : List X) → list_any p (filter q xs) ≡ list_any (λ x. p x && q x) xs
 any_filter p q [] = refl
 any_filter p q (x ∷ xs) = any_step p (q x) x (filter q xs) (list_any (λ x. p x && q x) xs) (any_filter p q xs)
 
@@ -145,7 +126,7 @@ or_and true false true = refl
 or_and true false false = refl
 or_and false b c = refl
 
-any_and : {X : Type 0} (p : X → Bool) (c : Bool) (xs : List X) → (list_any p xs && c) ≡ list_any (λ x. p x && c) xs
+pub any_and : {X : Type 0} (p : X → Bool) (c : Bool) (xs : List X) → (list_any p xs && c) ≡ list_any (λ x. p x && c) xs
 any_and p c [] = refl
 any_and p c (x ∷ xs) = or_and (p x) (list_any p xs) c ∙ ap (λ b. (p x && c) || b) (any_and p c xs)
 
@@ -167,37 +148,12 @@ ends_is e path w = any_and (λ at. is_at at w) (fires_once w.kind) (fired_at e p
     by event.ChildWatchRemoved = refl
     by event.PersistentWatchRemoved = refl
 
-pub unfired_is : (rows : List Watch) (event : EventKind) (path : Path) → from_list {R = watch_cmp} (kept rows (once_at event path)) ≡ unfired (from_list rows) event path
-unfired_is rows event path =
-    ap from_list (kept_is rows (once_at event path) ∙ filter_same _ _ (λ w. ap not (sym (ends_is event path w))) rows)
-    ∙ from_list-filter watches_total same_watch (λ w. not (ends event path w)) rows
-
-pub reported_lists : (rows : List Watch) (event : EventKind) (path : Path) (all numbers : List ℕ) → all ≡ reported_by rows (fired_at event path)
-    → Lists numbers (from_list {R = nat_cmp} all) → Lists numbers (reported (from_list {R = watch_cmp} rows) event path)
-reported_lists rows event path all numbers is lists = subst (λ s. Lists numbers s) (ap from_list is ∙ reported_is rows event path) lists
-
-pub unfired_rows : (rows new : List Watch) (event : EventKind) (path : Path) → new ≡ kept rows (once_at event path)
-    → from_list {R = watch_cmp} new ≡ unfired (from_list rows) event path
-unfired_rows rows new event path is = ap from_list is ∙ unfired_is rows event path
-
-pub kept_all_sorted : (rows : List Watch) (places : List Place) → IsStrictlySortedBy watch_cmp rows → IsStrictlySortedBy watch_cmp (kept rows places)
-kept_all_sorted rows [] sorted = sorted
-kept_all_sorted rows (at ∷ places) sorted = kept_all_sorted (filter (λ w. not (is_at at w)) rows) places (kept_sorted rows (λ w. not (is_at at w)) sorted)
-
-pub others_rows : (rows new : List Watch) (connection : ℕ) → new ≡ filter (λ w. not (eqb w.connection connection)) rows
-    → from_list {R = watch_cmp} new ≡ without (from_list rows) connection
-others_rows rows new connection is = ap from_list is ∙ from_list-filter watches_total same_watch (λ w. not (eqb w.connection connection)) rows
-
-pub rest_rows : (rows new : List Watch) (connection : ℕ) (type : WatchType) (path : Path) → new ≡ filter (λ w. not (is_meant connection type path w)) rows
-    → from_list {R = watch_cmp} new ≡ without_meant (from_list rows) connection type path
-rest_rows rows new connection type path is = ap from_list is ∙ from_list-filter watches_total same_watch (λ w. not (is_meant connection type path w)) rows
-
 pub meant_rows : (rows : List Watch) (connection : ℕ) (type : WatchType) (path : Path) → list_any (is_meant connection type path) rows ≡ has_meant (from_list {R = watch_cmp} rows) connection type path
 meant_rows rows connection type path = sym (any-items watches_total same_watch (is_meant connection type path) rows)
 
 -- ---- rows at one of several positions
 
-any_or : {X : Type 0} (p q : X → Bool) (xs : List X) → list_any (λ x. p x || q x) xs ≡ (list_any p xs || list_any q xs)
+pub any_or : {X : Type 0} (p q : X → Bool) (xs : List X) → list_any (λ x. p x || q x) xs ≡ (list_any p xs || list_any q xs)
 any_or p q [] = refl
 any_or p q (x ∷ xs) = rw (any_or p q xs) (swapped (p x) (q x) (list_any p xs) (list_any q xs))
   where
@@ -219,6 +175,66 @@ found_is rows (at ∷ places) =
 
 pub awaited_is : (rows : List Watch) (event : EventKind) (path : Path) → found_by rows (fired_at event path) ≡ is_awaited (from_list {R = watch_cmp} rows) event path
 awaited_is rows event path = found_is rows (fired_at event path) ∙ sym (any-items watches_total same_watch (fires event path) rows)
+
+-- ---- who waits at one of several positions
+
+-- a connection's watch at a position is one of that position
+waiting_one : (at : Place) (q : ℕ) (w : Watch) → eq_by_cmp watch_cmp (watch at.path at.kind q) w ≡ (eq_by_cmp nat_cmp q w.connection && is_at at w)
+waiting_one at q w =
+    two (place_cmp at (place_of w)) (nat_cmp q w.connection)
+    ∙ (λ i. eq_by_cmp nat_cmp q w.connection && (eq_by_cmp_equiv places_total).symm at (place_of w) i)
+  where
+    two : (a b : Ordering) → is_eq (ordering_then a b) ≡ (is_eq b && is_eq a)
+    two Less Less = refl
+    two Less Equal = refl
+    two Less Greater = refl
+    two Equal Less = refl
+    two Equal Equal = refl
+    two Equal Greater = refl
+    two Greater Less = refl
+    two Greater Equal = refl
+    two Greater Greater = refl
+
+waits_items : (table : Watches) (places : List Place) (q : ℕ)
+    → waits_at table places q ≡ list_any (λ w. eq_by_cmp nat_cmp q w.connection && list_any (λ at. is_at at w) places) (items table)
+waits_items table [] q = sym (any_none (λ (w : Watch). eq_by_cmp nat_cmp q w.connection) (items table))
+waits_items table (at ∷ places) q =
+    (λ i. (contains-items table (watch at.path at.kind q) ∙ any_same _ _ (waiting_one at q) (items table)) i || waits_items table places q i)
+    ∙ any_either (λ (w : Watch). eq_by_cmp nat_cmp q w.connection) (is_at at) (λ w. list_any (λ at. is_at at w) places) (items table)
+
+-- who waits where an event fires is to be notified
+pub waiting_is : (table : Watches) (event : EventKind) (path : Path) (q : ℕ) → waits_at table (fired_at event path) q ≡ contains (reported table event path) q
+waiting_is table event path q =
+    let rows = items table in
+    waits_items table (fired_at event path) q
+    ∙ sym (reported_members rows (fired_at event path) (eq_by_cmp nat_cmp q))
+    ∙ sym (contains-from_list nat_cmp_total (reported_by rows (fired_at event path)) q)
+    ∙ ap (λ (s : FinSet nat_cmp). contains s q) (reported_is rows event path)
+    ∙ ap (λ (t : Watches). contains (reported t event path) q) (sym (of_items table))
+
+pub reported_lists : (table : Watches) (event : EventKind) (path : Path) (none all numbers : List ℕ) → none ≡ []
+    → AddsWaiting table none all (fired_at event path) → Lists numbers (from_list {R = nat_cmp} all) → Lists numbers (reported table event path)
+reported_lists table event path none all numbers empty adds lists = subst (λ s. Lists numbers s) same lists
+  where
+    same : from_list {R = nat_cmp} all ≡ reported table event path
+    same = same_set nat_cmp_total nat_cmp-IsAntisymmetric _ _ (λ q.
+        contains-from_list nat_cmp_total all q
+        ∙ adds q
+        ∙ ap (λ xs. list_any (eq_by_cmp nat_cmp q) xs || waits_at table (fired_at event path) q) empty
+        ∙ waiting_is table event path q)
+
+-- those who wait at some positions are added, and then those at others
+pub adds_both : (table : Watches) (old mid new : List ℕ) (first more : List Place) → AddsWaiting table old mid first → AddsWaiting table mid new more
+    → AddsWaiting table old new (first ++ more)
+adds_both table old mid new first more one two q =
+    two q
+    ∙ ap (λ b. b || waits_at table more q) (one q)
+    ∙ assoc (list_any (eq_by_cmp nat_cmp q) old) (waits_at table first q) (waits_at table more q)
+    ∙ ap (λ b. list_any (eq_by_cmp nat_cmp q) old || b) (sym (list_any-append (λ at. contains table (watch at.path at.kind q)) first more))
+  where
+    assoc : (a b c : Bool) → ((a || b) || c) ≡ (a || (b || c))
+    assoc true b c = refl
+    assoc false b c = refl
 
 -- ---- sorted, and each once
 

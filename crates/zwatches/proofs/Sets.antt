@@ -1,14 +1,12 @@
 -- Lists that rise, as sets.
-use Rattle.std.proofs.Common.{◌≡◌, Bool, true, false, ◌&&◌, ◌||◌, List, [], ◌∷◌, ◌++◌, length, refl, sym, ap, ◌∙◌, arith}
+use Rattle.std.proofs.Common.{◌≡◌, Bool, true, false, ◌&&◌, ◌||◌, List, refl, sym, ap, ◌∙◌}
 use Rattle.std.specs.declared.cmp.Ordering.{Ordering}
-use Rattle.std.specs.declared.cmp.Ordering.TheVariants.{Less}
 use Rattle.std.specs.Ordering.{eq_by_cmp}
 use Rattle.std.specs.Cmp.{IsTotalOrder, Equal-is, both_ways, eq_by_cmp_equiv}
-use Rattle.std.specs.List.{AllByRecursion, filter, list_any}
-use Rattle.std.specs.List.Sorted.{IsStrictlySortedBy}
+use Rattle.std.specs.List.{filter, list_any}
 use Rattle.std.specs.FinMap.{IsAntisymmetric}
-use Rattle.std.specs.FinSet.{FinSet, contains, insert, retain, len, items, from_list, len-empty, len-insert, contains-items, contains-insert, contains-retain, contains-from_list, same_set}
-use Rattle.std.proofs.lemmas.List.Folds.{list_any-append, Any-from_list_any, list_any-from_Any}
+use Rattle.std.specs.FinSet.{FinSet, contains, insert, retain, items, from_list, contains-items, contains-insert, contains-retain, contains-from_list, same_set}
+use Rattle.std.proofs.lemmas.List.Folds.{Any-from_list_any, list_any-from_Any}
 use Rattle.std.proofs.lemmas.Map.Views.{any-filter_same, Contains-from_any, list_any-from_Contains}
 
 and_swap : (a b : Bool) → (a && b) ≡ (b && a)
@@ -17,28 +15,11 @@ and_swap true false = refl
 and_swap false true = refl
 and_swap false false = refl
 
-or_swap : (a b c : Bool) → (a || (b || c)) ≡ (b || (a || c))
-or_swap true true c = refl
-or_swap true false c = refl
-or_swap false b c = refl
-
 pub or_true : (b : Bool) → (b || true) ≡ true
 or_true true = refl
 or_true false = refl
 
 module _ {K : Type 0} {R : K → K → Ordering} (o : IsTotalOrder R) where
-  none_tied : (x : K) (xs : List K) → AllByRecursion (λ y. R x y ≡ Less) xs → list_any (eq_by_cmp R x) xs ≡ false
-  none_tied x [] all = refl
-  none_tied x (y ∷ ys) all = rw (all.0, none_tied x ys all.1) refl
-
-  -- a list that rises has as many elements as its set
-  pub len-from_list : (xs : List K) → IsStrictlySortedBy R xs → len (from_list {R = R} xs) ≡ length xs
-  unfolding IsStrictlySortedBy
-  len-from_list [] sorted = len-empty R
-  len-from_list (x ∷ xs) sorted =
-      len-insert o (from_list xs) x
-      ∙ rw (contains-from_list o xs x, none_tied x xs sorted.0, len-from_list xs sorted.1) (omega arith)
-
   module _ (same : IsAntisymmetric R) where
     tied : (x y : K) → eq_by_cmp R x y ≡ true → x ≡ y
     tied x y e = same x y ((Equal-is (R x y)).0 e)
@@ -64,14 +45,6 @@ module _ {K : Type 0} {R : K → K → Ordering} (o : IsTotalOrder R) where
         ∙ and_swap (p q) (list_any (eq_by_cmp R q) xs)
         ∙ ap (λ b. b && p q) (sym (contains-from_list o xs q))
         ∙ sym (contains-retain (from_list xs) p q (λ x e. ap p (sym (same q x e)))))
-
-    pub from_list-insert : (front back : List K) (x : K) → from_list {R = R} (front ++ x ∷ back) ≡ insert (from_list (front ++ back)) x
-    from_list-insert front back x = same_set o same _ _ (λ q.
-        contains-from_list o (front ++ x ∷ back) q
-        ∙ list_any-append (eq_by_cmp R q) front (x ∷ back)
-        ∙ or_swap (list_any (eq_by_cmp R q) front) (eq_by_cmp R q x) (list_any (eq_by_cmp R q) back)
-        ∙ ap (λ b. eq_by_cmp R q x || b) (sym (contains-from_list o (front ++ back) q ∙ list_any-append (eq_by_cmp R q) front back))
-        ∙ sym (contains-insert o (from_list (front ++ back)) x q))
 
     -- what is there is inserted in vain
     pub insert_again : (s : FinSet R) (x : K) → contains s x ≡ true → insert s x ≡ s

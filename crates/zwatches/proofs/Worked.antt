@@ -21,7 +21,7 @@ use Rattle.zwatches.specs.support.Groups.{set_of, reported_by, found_by}
 use Rattle.zwatches.proofs.Order.{watches_total, same_watch}
 use Rattle.zwatches.proofs.Reporting.{awaited_is, meant_rows, reported_is, any_map}
 
-both_true : (a b : Bool) → (a && b) ≡ true → (a ≡ true) × (b ≡ true)
+pub both_true : (a b : Bool) → (a && b) ≡ true → (a ≡ true) × (b ≡ true)
 both_true true true e = (refl, refl)
 both_true true false e = absurd cc
 both_true false b e = absurd cc

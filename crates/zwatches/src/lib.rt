@@ -8,26 +8,30 @@
 //! The end of a session deletes nodes, and its reply doesn't name them. So a front asks of each node
 //! that existed before whether its deletion is awaited, and checks which of those are gone.
 //!
-//! The rows of the table are sorted by path, kind and connection. A call finds its rows by binary
-//! search, and moves the rows after them. How many watches a connection has is counted beside them,
-//! since there is a limit of each connection's watches, and one of all together.
+//! The table is a tree by path, and within a path by kind and connection. Beside it there are a
+//! tree of each connection's paths, and how many watches each has: there is a limit of each
+//! connection's watches, and one of all together. So a call takes time by the watches that it sets,
+//! notifies or removes, and hardly by how many others there are.
 //!
 //! Contracts see a table as a set of watches (`specs/Watches.antt`). `specs/Events.antt` defines
 //! which watches an event fires and whom it notifies, `specs/Removal.antt` which watches a request
 //! removes, and `specs/Limits.antt` what the limits come to.
 #![tactic(auto)]
 
+mod by_connection;
+mod by_path;
 pub mod changes;
+mod counted;
 mod fault;
-mod groups;
+mod firing;
 mod kind;
 pub mod laws;
 mod limits;
 mod removal;
 mod rows;
-mod search;
 mod setting;
 mod shares;
+mod slot;
 mod watch;
 mod watches;
 

@@ -1,73 +1,73 @@
-//! Setting a watch among the rows.
+//! Setting a watch.
 
-ghost use Rattle.std.specs.Prelude.{◌≡◌, ◌≤◌, ◌++◌, ◌∷◌, true, false, take, drop, IsOk, OnOk, OnErr, IfErr};
-ghost use Rattle.std.specs.Prelude.{vec_len};
-ghost use Rattle.std.specs.FinSet.{contains, insert};
+ghost use Rattle.std.specs.Prelude.{◌≡◌, true, false, IsOk, OnOk, OnErr, IfErr};
+ghost use Rattle.std.specs.FinSet.{contains, insert, len};
+ghost use Rattle.std.specs.Prelude.{◌+◌, ◌<◌, ◌^◌};
 ghost use Rattle.zwatches.specs.Watches.{watch, is_full, IsSetFault};
-ghost use Rattle.zwatches.specs.support.Groups.{AreRows, set_of};
-ghost use Rattle.zwatches.specs.support.Shares.{AreCounted};
+ghost use Rattle.zwatches.specs.support.Nested.{AreFound};
 
+use crate::by_connection::ByConnection;
+use crate::counted::Counted;
 use crate::fault::WatchFault;
 use crate::kind::Kind;
 use crate::limits::WatchLimits;
-use crate::search::find;
-use crate::shares::Shares;
-use crate::watch::Watch;
+use crate::removal::tidy;
+use crate::slot::Slot;
 use zalloc::Memory;
 use zpath::Path;
 
 // Sets a watch, unless it is already set, or there are as many as a limit allows.
 pub(crate) fn set_in(
-    rows: &mut Vec<Watch>,
-    shares: &mut Shares,
+    watches: &mut Counted,
+    paths: &mut ByConnection,
     limits: WatchLimits,
     path: &Path,
     kind: Kind,
     connection: u32,
 ) -> Result<(), WatchFault>
-    requires rows { AreRows rows.old.items }
-    requires counted { AreCounted shares.old rows.old.items }
-    ensures rows { AreRows rows.new.items }
-    ensures counted { AreCounted shares.new rows.new.items }
-    ensures ok { OnOk result (set_of rows.new.items
-        ≡ insert (set_of rows.old.items) (watch path.now kind connection)) }
-    ensures err { OnErr result (rows.new.items ≡ rows.old.items) }
+    requires found { AreFound paths.old.paths.entries watches.old }
+    ensures found { AreFound paths.new.paths.entries watches.new }
+    ensures ok { OnOk result
+        (watches.new ≡ insert watches.old (watch path.now kind connection)) }
+    ensures err { OnErr result (watches.new ≡ watches.old) }
     ensures room { OnOk result
-        (is_full limits (set_of rows.old.items) (watch path.now kind connection) ≡ false) }
-    ensures fault { IfErr result (IsSetFault
-        (is_full limits (set_of rows.old.items) (watch path.now kind connection))) }
-    ensures again { contains (set_of rows.old.items) (watch path.now kind connection) ≡ true
-        → IsOk result }
+        (is_full limits watches.old (watch path.now kind connection) ≡ false) }
+    ensures fault { IfErr result
+        (IsSetFault (is_full limits watches.old (watch path.now kind connection))) }
+    ensures again { contains watches.old (watch path.now kind connection) ≡ true → IsOk result }
 {
-    let Err(at) = find(rows, path.names(), kind, connection) else {
+    let slot = Slot { kind, connection };
+    if watches.contains(path.names(), slot) {
         return Ok(());
-    };
-    if rows.len() >= limits.most || shares.of(connection) >= limits.each {
+    }
+    if watches.count() >= limits.most || watches.share(connection) >= limits.each {
         return Err(WatchFault::Full);
     }
-    let path = path.clone()?;
-    let watch = Watch {
-        path,
-        kind,
-        connection,
-    };
-    put(rows, shares, at, watch)?;
+    let copy = path.clone()?;
+    put(watches, paths, path, copy, slot)?;
     Ok(())
 }
 
-// Inserts a row at an index, and counts it.
-fn put(rows: &mut Vec<Watch>, shares: &mut Shares, at: usize, watch: Watch) -> Result<(), Memory>
-    requires within { at ≤ vec_len rows.old }
-    requires counted { AreCounted shares.old rows.old.items }
-    ensures counted { AreCounted shares.new rows.new.items }
+// Adds a watch that isn't there, and its path under its connection.
+fn put(
+    watches: &mut Counted,
+    paths: &mut ByConnection,
+    path: &Path,
+    copy: Path,
+    slot: Slot,
+) -> Result<(), Memory>
+    requires copied { copy ≡ path.now }
+    requires absent { contains watches.old (watch path.now slot.kind slot.connection) ≡ false }
+    requires room { len watches.old + 1 < 2 ^ 64 }
+    requires found { AreFound paths.old.paths.entries watches.old }
+    ensures found { AreFound paths.new.paths.entries watches.new }
     ensures ok { OnOk result
-        (rows.new.items ≡ take at rows.old.items ++ watch ∷ drop at rows.old.items) }
-    ensures err { OnErr result (rows.new.items ≡ rows.old.items) }
+        (watches.new ≡ insert watches.old (watch path.now slot.kind slot.connection)) }
+    ensures err { OnErr result (watches.new ≡ watches.old) }
 {
-    let connection = watch.connection;
-    shares.raise(connection)?;
-    if rows.insert(at, watch).is_err() {
-        shares.lower(connection, 1);
+    paths.add(slot.connection, copy)?;
+    if watches.insert(path.names(), slot).is_err() {
+        tidy(watches, paths, path, slot.connection);
         return Err(Memory);
     }
     Ok(())

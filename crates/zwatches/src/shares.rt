@@ -2,13 +2,12 @@
 //!
 //! # Why
 //!
-//! The rows are sorted by path. To count those of a connection would take a look at each.
+//! The watches are sorted by path. To count those of a connection would take a look at each.
 
 ghost use Rattle.std.specs.Prelude.{◌≡◌, ℕ, ◌+◌, ◌-◌, ◌<◌, ◌^◌, OnErr, OnOk};
 ghost use Rattle.std.specs.FinMap as finite;
-ghost use Rattle.zwatches.specs.support.Shares.{changed_by, counted, count_of};
+ghost use Rattle.zwatches.specs.support.Shares.{changed_by, counted};
 
-use crate::watch::Watch;
 use std::alloc::Global;
 use std::collections::BTreeMap;
 use std::marker::Model;
@@ -66,16 +65,6 @@ impl Shares {
     {
         if let Some(count) = self.counts.get_mut(&connection) {
             *count = count.saturating_sub(gone);
-        }
-    }
-
-    // Counts these watches no more. Allocates nothing.
-    pub(crate) fn lower_all(&mut self, gone: &[Watch])
-        ensures { (connection : ℕ) → counted self.new connection
-            ≡ counted self.old connection - count_of connection gone.now }
-    {
-        for watch in gone {
-            self.lower(watch.connection, 1);
         }
     }
 

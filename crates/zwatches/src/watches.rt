@@ -8,15 +8,14 @@ ghost use Rattle.zjute.specs.declared.event.EventKind.TheVariants.{NodeDeleted};
 ghost use Rattle.zwatches.specs.Events.{is_awaited, reported, unfired, without, Lists};
 ghost use Rattle.zwatches.specs.Removal.{has_meant, without_meant};
 
+use crate::by_connection::ByConnection;
+use crate::counted::Counted;
 use crate::fault::WatchFault;
-use crate::groups::{awaits_end, remove_all, remove_fired, reported_of};
+use crate::firing::{awaits_end, remove_fired, reported_of};
 use crate::kind::Kind;
 use crate::limits::WatchLimits;
-use crate::removal::{has_meant, remove_meant};
-use crate::search::count_of;
+use crate::removal::{has_meant, remove_all, remove_meant};
 use crate::setting::set_in;
-use crate::shares::Shares;
-use crate::watch::Watch;
 use std::alloc::Global;
 use std::marker::Model;
 use zalloc::Memory;
@@ -26,26 +25,25 @@ use zpath::Path;
 /// A set of watches.
 #[derive(Drop)]
 pub struct Watches {
-    rows: Vec<Watch>,
-    // How many of the rows are of each connection.
-    shares: Shares,
+    // By path, and counted.
+    watches: Counted,
+    // The paths of each connection.
+    paths: ByConnection,
     alloc: Global,
 }
 
 impl Model for Watches {
     ghost use Rattle.zwatches.specs.Watches.{Watches as Table};
     ghost use Rattle.zwatches.specs.support.Codes.{coded_watches};
-    ghost use Rattle.zwatches.specs.support.Groups.{AreRows, set_of};
-    ghost use Rattle.zwatches.specs.support.Shares.{AreCounted};
+    ghost use Rattle.zwatches.specs.support.Nested.{AreFound};
 
     ghost Value = { Table };
 
     ghost coded = { coded_watches };
 
-    ghost view = { λ table. set_of table.rows.items };
+    ghost view = { λ table. table.watches };
 
-    ghost invariant = { λ table. AreRows table.rows.items
-        × AreCounted table.shares table.rows.items };
+    ghost invariant = { λ table. AreFound table.paths.paths.entries table.watches };
 }
 
 impl Watches {
@@ -54,8 +52,8 @@ impl Watches {
         ensures { result ≡ sets.empty }
     {
         Watches {
-            rows: Vec::new(alloc),
-            shares: Shares::new(alloc),
+            watches: Counted::new(alloc),
+            paths: ByConnection::new(alloc),
             alloc,
         }
     }
@@ -64,11 +62,11 @@ impl Watches {
     pub fn count(&self) -> usize
         ensures { result ≡ len self.now }
     {
-        count_of(&self.rows)
+        self.watches.count()
     }
 
     /// Sets a watch, if the limits allow one more. Setting one again does nothing and allocates
-    /// nothing. After a fault nothing has changed.
+    /// nothing. After a fault nothing has changed. Searches trees, and moves no other watches.
     pub fn set(
         &mut self,
         limits: WatchLimits,
@@ -86,8 +84,8 @@ impl Watches {
         ensures again { contains self.old (watch path.now kind connection) ≡ true → IsOk result }
     {
         set_in(
-            &mut self.rows,
-            &mut self.shares,
+            &mut self.watches,
+            &mut self.paths,
             limits,
             path,
             kind,
@@ -97,15 +95,22 @@ impl Watches {
 
     /// Fires the watches of an event at a path. Removes those that wait for one change. Returns the
     /// connections to notify, each once, in rising order. The parent's event is a separate call.
-    /// After `Memory` nothing has changed.
+    /// After `Memory` nothing has changed. Searches the path and those above it, and takes time by
+    /// the connections to notify.
     pub fn changed(&mut self, event: EventKind, path: &Path) -> Result<Vec<u32>, Memory>
         ensures reported { IfOk result (λ connections. Lists connections.items
             (reported self.old event path.now)) }
         ensures gone { OnOk result (self.new ≡ unfired self.old event path.now) }
         ensures err { OnErr result (self.new ≡ self.old) }
     {
-        let connections = reported_of(self.alloc, &self.rows, event, path.names())?;
-        remove_fired(&mut self.rows, &mut self.shares, event, path.names());
+        let connections = reported_of(self.alloc, &self.watches, event, path.names())?;
+        remove_fired(
+            &mut self.watches,
+            &mut self.paths,
+            &connections,
+            event,
+            path,
+        );
         Ok(connections)
     }
 
@@ -113,28 +118,35 @@ impl Watches {
     pub fn awaits_end(&self, path: &Path) -> bool
         ensures { result ≡ is_awaited self.now NodeDeleted path.now }
     {
-        awaits_end(&self.rows, path.names())
+        awaits_end(&self.watches, path.names())
     }
 
     /// Returns whether a connection has a watch of this type at a path.
     pub fn has(&self, connection: u32, type_of: WatchType, path: &Path) -> bool
         ensures { result ≡ has_meant self.now connection type_of path.now }
     {
-        has_meant(&self.rows, connection, type_of, path.names())
+        has_meant(&self.watches, connection, type_of, path.names())
     }
 
-    /// Removes the watches of this type that a connection has at a path. Allocates nothing.
+    /// Removes the watches of this type that a connection has at a path. Allocates nothing. Looks
+    /// at no others.
     pub fn remove(&mut self, connection: u32, type_of: WatchType, path: &Path)
         ensures { self.new ≡ without_meant self.old connection type_of path.now }
     {
-        let names = path.names();
-        remove_meant(&mut self.rows, &mut self.shares, connection, type_of, names);
+        remove_meant(
+            &mut self.watches,
+            &mut self.paths,
+            connection,
+            type_of,
+            path,
+        );
     }
 
-    /// Removes all watches of a connection. Allocates nothing.
+    /// Removes all watches of a connection. Allocates nothing. Takes time by these watches, and
+    /// looks at no others.
     pub fn forget(&mut self, connection: u32)
         ensures { self.new ≡ without self.old connection }
     {
-        remove_all(&mut self.rows, &mut self.shares, connection);
+        remove_all(&mut self.watches, &mut self.paths, connection);
     }
 }

@@ -24,7 +24,7 @@ use Rattle.zwire.specs.records.Records.{server}
 use Rattle.zwire.proofs.records_lemmas.Sums.{none_take, one_takes}
 use Rattle.zwire.proofs.records_lemmas.Records.{is_server}
 use Rattle.zwire.specs.Fields.{within_from, within, call_number, log_number, epoch, client, process_at, process_spelled}
-use Rattle.zwire.specs.Fields.{process, three, zxids_of, four, counts_of, sizes_of, stat_of, stat, refusal_at}
+use Rattle.zwire.specs.Fields.{process, three, zxids_of, four, five, counts_of, sizes_of, stat_of, stat, refusal_at}
 use Rattle.zwire.specs.Fields.{refusal_spelled, refusal, counted}
 
 -- ---- numbers
@@ -78,11 +78,14 @@ is_three = is_both long (both long long) is_u64 (is_both long long is_u64 is_u64
 pub is_four : IsForm four
 is_four = is_both long three is_u64 is_three
 
+pub is_five : IsForm five
+is_five = is_both long four is_u64 is_four
+
 pub is_stat : IsForm stat
 unfolding stat
 is_stat =
-    is_record (both three (both four three)) (λ s. (zxids_of s, (counts_of s, sizes_of s))) stat_of
-    (is_both three (both four three) is_three (is_both four three is_four is_three)) (λ f. refl) (λ s. refl)
+    is_record (both three (both five three)) (λ s. (zxids_of s, (counts_of s, sizes_of s))) stat_of
+    (is_both three (both five three) is_three (is_both five three is_five is_three)) (λ f. refl) (λ s. refl)
 
 -- ---- refusals
 

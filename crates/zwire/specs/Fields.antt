@@ -69,19 +69,23 @@ three = both long (both long long)
 abbrev pub four : Form (ℕ × (ℕ × (ℕ × ℕ)))
 four = both long three
 
+abbrev pub five : Form (ℕ × (ℕ × (ℕ × (ℕ × ℕ))))
+five = both long four
+
 -- czxid, mzxid, pzxid
 abbrev pub zxids_of : Stat → ℕ × (ℕ × ℕ)
 zxids_of s = (s.czxid, (s.mzxid, s.pzxid))
 
--- ctime, mtime, version, cversion
-abbrev pub counts_of : Stat → ℕ × (ℕ × (ℕ × ℕ))
-counts_of s = (s.ctime, (s.mtime, (s.version, s.cversion)))
+-- ctime, mtime, version, cversion, aversion
+abbrev pub counts_of : Stat → ℕ × (ℕ × (ℕ × (ℕ × ℕ)))
+counts_of s = (s.ctime, (s.mtime, (s.version, (s.cversion, s.aversion))))
 
 -- owner, length, children
 abbrev pub sizes_of : Stat → ℕ × (ℕ × ℕ)
 sizes_of s = (s.owner, (s.length, s.children))
 
-abbrev pub stat_of : (ℕ × (ℕ × ℕ)) × ((ℕ × (ℕ × (ℕ × ℕ))) × (ℕ × (ℕ × ℕ))) → Stat
+abbrev pub stat_of :
+    (ℕ × (ℕ × ℕ)) × ((ℕ × (ℕ × (ℕ × (ℕ × ℕ)))) × (ℕ × (ℕ × ℕ))) → Stat
 stat_of f = record {
   czxid = f.0.0;
   mzxid = f.0.1.0;
@@ -89,14 +93,15 @@ stat_of f = record {
   ctime = f.1.0.0;
   mtime = f.1.0.1.0;
   version = f.1.0.1.1.0;
-  cversion = f.1.0.1.1.1;
+  cversion = f.1.0.1.1.1.0;
+  aversion = f.1.0.1.1.1.1;
   owner = f.1.1.0;
   length = f.1.1.1.0;
   children = f.1.1.1.1;
 }
 
 unfoldable pub stat : Form Stat
-stat = fields (both three (both four three)) (λ s. (zxids_of s, (counts_of s, sizes_of s))) stat_of
+stat = fields (both three (both five three)) (λ s. (zxids_of s, (counts_of s, sizes_of s))) stat_of
 
 -- ---- refusals
 

@@ -3,7 +3,7 @@
 ghost use Rattle.std.specs.Prelude.{◌≡◌};
 ghost use Rattle.zcodec.specs.Readers.{Reads};
 ghost use Rattle.zwire.specs.Fields.{call_number, log_number, epoch, client, process_at, process};
-ghost use Rattle.zwire.specs.Fields.{three, four, stat, refusal_at, refusal};
+ghost use Rattle.zwire.specs.Fields.{three, four, five, stat, refusal_at, refusal};
 ghost use Rattle.zwire.specs.Messages.{last, end};
 
 use crate::records::server_at;
@@ -124,7 +124,7 @@ pub(crate) fn stat_at(bytes: &[u8]) -> Result<(Stat, &[u8]), Fault>
     ensures { Reads (λ x. (x.0, x.1.now)) result (stat.read bytes.now) }
 {
     let (czxid, mzxid, pzxid, rest) = three_at(bytes)?;
-    let (ctime, mtime, version, cversion, rest) = four_at(rest)?;
+    let (ctime, mtime, version, cversion, aversion, rest) = five_at(rest)?;
     let (owner, length, children, rest) = three_at(rest)?;
     let stat = Stat {
         czxid: Zxid::new(czxid),
@@ -134,6 +134,7 @@ pub(crate) fn stat_at(bytes: &[u8]) -> Result<(Stat, &[u8]), Fault>
         mtime,
         version,
         cversion,
+        aversion,
         owner,
         length,
         children,
@@ -151,13 +152,23 @@ pub fn three_at(bytes: &[u8]) -> Result<(u64, u64, u64, &[u8]), Fault>
     Ok((first, second, third, rest))
 }
 
-/// Reads four numbers.
-pub fn four_at(bytes: &[u8]) -> Result<(u64, u64, u64, u64, &[u8]), Fault>
+// Reads four numbers.
+fn four_at(bytes: &[u8]) -> Result<(u64, u64, u64, u64, &[u8]), Fault>
     ensures { Reads (λ x. ((x.0, (x.1, (x.2, x.3))), x.4.now)) result (four.read bytes.now) }
 {
     let (first, rest) = u64_at(bytes)?;
     let (second, third, fourth, rest) = three_at(rest)?;
     Ok((first, second, third, fourth, rest))
+}
+
+/// Reads five numbers.
+pub fn five_at(bytes: &[u8]) -> Result<(u64, u64, u64, u64, u64, &[u8]), Fault>
+    ensures { Reads (λ x. ((x.0, (x.1, (x.2, (x.3, x.4)))), x.5.now)) result
+        (five.read bytes.now) }
+{
+    let (first, rest) = u64_at(bytes)?;
+    let (second, third, fourth, fifth, rest) = four_at(rest)?;
+    Ok((first, second, third, fourth, fifth, rest))
 }
 
 /// Reads why a call was refused.

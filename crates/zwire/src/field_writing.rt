@@ -4,7 +4,7 @@
 ghost use Rattle.std.specs.Prelude.{◌≡◌, ◌++◌, OnOk};
 ghost use Rattle.zwire.specs.Fields.{call_number, log_number, epoch as epoch_form};
 ghost use Rattle.zwire.specs.Fields.{client as client_form, process as process_form};
-ghost use Rattle.zwire.specs.Fields.{three, zxids_of, four, counts_of, sizes_of};
+ghost use Rattle.zwire.specs.Fields.{three, zxids_of, four, five, counts_of, sizes_of};
 ghost use Rattle.zwire.specs.Fields.{stat as stat_form, refusal as refusal_form};
 ghost use Rattle.zwire.specs.Messages.{last as last_form, end as end_form};
 
@@ -120,16 +120,26 @@ fn put_zxids(out: &mut Vec<u8>, stat: &Stat) -> Result<(), AllocError>
     put_u64(out, stat.pzxid.number())
 }
 
-// Writes its two times and its two versions.
+// Writes its two times and its three versions.
 fn put_counts(out: &mut Vec<u8>, stat: &Stat) -> Result<(), AllocError>
     ensures text { OnOk result
-        (out.new.items ≡ out.old.items ++ four.spell (counts_of stat.now)) }
-    ensures fits { OnOk result (four.Fits (counts_of stat.now)) }
+        (out.new.items ≡ out.old.items ++ five.spell (counts_of stat.now)) }
+    ensures fits { OnOk result (five.Fits (counts_of stat.now)) }
 {
     put_u64(out, stat.ctime)?;
+    put_later_counts(out, stat)
+}
+
+// Writes those of them that come after the first.
+fn put_later_counts(out: &mut Vec<u8>, stat: &Stat) -> Result<(), AllocError>
+    ensures text { OnOk result
+        (out.new.items ≡ out.old.items ++ four.spell (counts_of stat.now).1) }
+    ensures fits { OnOk result (four.Fits (counts_of stat.now).1) }
+{
     put_u64(out, stat.mtime)?;
     put_u64(out, stat.version)?;
-    put_u64(out, stat.cversion)
+    put_u64(out, stat.cversion)?;
+    put_u64(out, stat.aversion)
 }
 
 // Writes its owner, its length and its number of children.

@@ -1,7 +1,7 @@
 //! A message in transit.
 //!
 //! # Why
-//! A frame is in memory as a whole, at both ends, and a state has up to 268 MB. So the state comes
+//! A frame is in memory as a whole, at both ends, and a state may be far longer. So the state comes
 //! after the frame, row by row.
 
 use zprotocol::{Message, Process};

@@ -5,7 +5,8 @@
 //! `read_frame` reads the first frame, or reports that more bytes are needed. Each message has one
 //! spelling.
 //!
-//! A `Snapshot` is spelled without its state, which is up to 268 MB: the state follows the frame.
+//! A `Snapshot` is spelled without its state, which may be far longer than a frame: the state
+//! follows.
 //!
 //! The definitions: `specs/Frames.antt` (frames, and why bytes aren't one), `specs/Messages.antt`,
 //! `specs/Replies.antt` and `specs/Fields.antt` (the bytes of their parts), `specs/Laws.antt`. The
@@ -37,7 +38,7 @@ mod rows;
 mod writing;
 
 pub use fault::{FrameFault, WriteError};
-pub use field_reading::{call_number_at, client_at, four_at, log_number_at, three_at};
+pub use field_reading::{call_number_at, client_at, five_at, log_number_at, three_at};
 pub use field_writing::{put_call_number, put_client, put_log_number};
 pub use frame::Frame;
 pub use limits::MAX_FRAME;

@@ -3,7 +3,7 @@ use Rattle.std.specs.Prelude.{ℕ, ◌+◌, ◌≡◌, Bool, true, Some, Result,
 use Rattle.std.specs.FinMap.{get}
 use Rattle.ztree.specs.declared.node.Stat.{Stat}
 use Rattle.ztree.specs.support.Samples.{a, at_a, some_node}
-use Rattle.ztree.specs.Tree.{Tree, Path, children, stat_with, without_node, with_next_zxid}
+use Rattle.ztree.specs.Tree.{Tree, Path, children, stat_with, without_node, with_next_zxid, with_acl}
 use Rattle.ztree.specs.Sessions.{without_session, with_next_tick}
 use Rattle.zcalls.specs.declared.call.Create.{Create}
 use Rattle.zcalls.specs.declared.call.Delete.{Delete}
@@ -19,7 +19,7 @@ use Rattle.zcalls.specs.declared.refusal.Refusal.TheVariants.{NoChildrenForEphem
 use Rattle.zcalls.specs.declared.reply.PartReply.TheVariants.{Checked}
 use Rattle.zcalls.specs.declared.reply.Reply.{Reply}
 use Rattle.zcalls.specs.declared.reply.Reply.TheVariants as reply
-use Rattle.zcalls.specs.Part.{create_refusals, delete_refusals, part_step, delete_step, set_step}
+use Rattle.zcalls.specs.Part.{create_refusals, delete_refusals, part_step, delete_step, set_step, acl_step}
 use Rattle.zcalls.specs.Multi.{Run, run}
 use Rattle.zcalls.specs.Step.{step, query_reply}
 
@@ -73,12 +73,19 @@ delete_a t version = delete_step t (record { path = at_a; version = Exactly vers
 abbrev pub set_a : Tree → ℕ → Result (Tree × ChangeReply) Refusal
 set_a t version = set_step t (record { path = at_a; bytes = a; version = Exactly version })
 
+abbrev pub set_acl_a : Tree → ℕ → Result (Tree × ChangeReply) Refusal
+set_acl_a t version = acl_step t (record { path = at_a; version = Exactly version })
+
 -- its bytes, and its stat where it has no children
 abbrev pub sevens : List ℕ
 sevens = 7 ∷ 7 ∷ []
 
 abbrev pub childless_stat : Stat
 childless_stat = stat_with some_node 0
+
+-- the same after a write of its access control list
+abbrev pub acl_stat : Stat
+acl_stat = stat_with (with_acl some_node) 0
 
 -- the tree without it, and that as the outcome of a delete
 abbrev pub without_a : Tree → Tree

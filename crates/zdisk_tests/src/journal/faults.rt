@@ -64,6 +64,7 @@ fn other_files_are_reported(rt: HostRuntime) -> Result<(), Fail> {
     assert_eq!(rt; fault_of(alloc, &other), Some(OpenError::Servers(5)));
     assert_eq!(rt; fault_with(alloc, 19, 3), Some(OpenError::Version(3)));
     assert_eq!(rt; fault_with(alloc, 25, 33), Some(OpenError::Other));
+    assert_eq!(rt; fault_with(alloc, 32, 32), Some(OpenError::Old));
     Ok(())
 }
 

@@ -10,7 +10,7 @@ const BEFORE: &[u8] = b"\x01jellqupas journal \x01\x03            \0\x0111e60398
 
 // One of version 2, with two batches.
 const AFTER: &[u8] =
-    b"\x01jellqupas journal \x02\x03tree of zk  \0\x0103da0195Wiki\0\x0111e60398pedia\0\0";
+    b"\x01jellqupas journal \x02\x03tree of zk 2\0\x0103da0195Wiki\0\x0111e60398pedia\0\0";
 
 // Renews the file with this batch. Whether all of it was done.
 fn renew<D: Device>(journal: &mut Journal<D>, batch: &[u8]) -> bool

@@ -5,19 +5,20 @@ ghost use Rattle.std.specs.Prelude.{◌≡◌};
 use std::alloc::Global;
 use std::test::Fail;
 use zcalls::{
-    Check, Create, Data, Delete, Expected, Kind, Lifetime, Multi, Part, SessionId, SetData, Ttl,
-    Update,
+    Check, Create, Data, Delete, Expected, Kind, Lifetime, Multi, Part, SessionId, SetAcl, SetData,
+    Ttl, Update,
 };
 use zpasswords::Password;
 use zpath::Path;
 use zprotocol::ServerId;
-use zwire::records::{Record, Row, next_record, read_records, write_records};
+use ztree::MOST_DATA;
+use zwire::records::{MAX_ROW_BYTES, Record, Row, next_record, read_records, write_records};
 
 // A create of a node with this many bytes.
 fn create(alloc: Global, path: &str, kind: Kind, len: usize) -> Option<Create> {
     let path = Path::parse(alloc, path).ok()?;
     let bytes = vec![in alloc; 7u8; len].ok()?;
-    let bytes = Data::new(alloc, bytes).ok()?;
+    let bytes = Data::within(alloc, bytes, MOST_DATA).ok()?;
     Some(Create { path, kind, bytes })
 }
 
@@ -45,6 +46,13 @@ fn multi(alloc: Global) -> Option<Multi> {
     Multi::new(parts).ok()
 }
 
+// A write of an access control list.
+fn set_acl(alloc: Global) -> Option<SetAcl> {
+    let path = Path::parse(alloc, "/a").ok()?;
+    let version = Expected::Exactly(3);
+    Some(SetAcl { path, version })
+}
+
 // A create of each kind of node.
 fn kinds(alloc: Global, records: &mut Vec<Record>) -> Option<()> {
     let ttl = Ttl::new(1 << 20)?;
@@ -68,10 +76,11 @@ fn kinds(alloc: Global, records: &mut Vec<Record>) -> Option<()> {
 
 // Records of the other kinds, the greatest data among them.
 fn others(alloc: Global, records: &mut Vec<Record>) -> Option<()> {
-    let largest = create(alloc, "/", Kind::named(Lifetime::Persistent), 65_536)?;
+    let largest = create(alloc, "/", Kind::named(Lifetime::Persistent), MOST_DATA)?;
     records.push(Record::Update(Update::Create(largest))).ok()?;
     let updates = [
         Update::Multi(multi(alloc)?),
+        Update::SetAcl(set_acl(alloc)?),
         Update::Open(u64::MAX),
         Update::Ping(SessionId::new(0)),
         Update::Close(SessionId::new(1)),
@@ -87,7 +96,7 @@ fn others(alloc: Global, records: &mut Vec<Record>) -> Option<()> {
     records.push(Record::Fail(server)).ok()?;
     records.push(Record::Join(server)).ok()?;
     records.push(Record::Retire(server)).ok()?;
-    let bytes = vec![in alloc; 255u8; 66_652].ok()?;
+    let bytes = vec![in alloc; 255u8; MAX_ROW_BYTES as usize].ok()?;
     records.push(Record::Row(Row::new(bytes)?)).ok()
 }
 

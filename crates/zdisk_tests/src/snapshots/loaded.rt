@@ -59,7 +59,7 @@ fn rows_stand_alone(rt: HostRuntime) {
             fault_of(0, b"\0\0\0\0"),
             Some(RowFault::Contents(Fault::Short))
         );
-        assert_eq!(rt; fault_of(0, b"\x7f\0\0\0"), Some(RowFault::TooLong));
+        assert_eq!(rt; fault_of(0, b"\xff\0\0\0"), Some(RowFault::TooLong));
     }
 }
 

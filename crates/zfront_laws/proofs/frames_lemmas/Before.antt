@@ -10,6 +10,7 @@ use Rattle.ztree.proofs.Maps.{none_some, get-insert-here, get-remove-here}
 use Rattle.zresponses.specs.declared.clock.Clock.{Clock}
 use Rattle.zjute.specs.Frames.{Whole, Partial, next_of, IsEnd}
 use Rattle.ztree_service.specs.log.Logs.{Log}
+use Rattle.ztree.specs.Tree.{Tree}
 use Rattle.zconnections.specs.declared.buffers.phase.Phase.{Phase}
 use Rattle.zconnections.specs.declared.buffers.phase.Phase.TheVariants.{Speaking}
 use Rattle.zconnections.specs.buffers.Inputs.InputView.{Opened, Came, Ended, Tick}
@@ -95,27 +96,27 @@ module _ (c : ℕ) where
       ap (λ (o : Option StreamView). (o, on c (drop 1 unsent))) (ap (λ (w : View). w.0) away)
       ∙ ap (λ (ps : List ChunkView). (None, ps)) (second_empty (on c (take 1 unsent)) (on c (drop 1 unsent)) none)
 
-  module _ (clock : Clock) (secret : List ℕ) where
+  module _ (clock : Clock) (secret : List ℕ) (start : Tree) where
     abbrev pub Known : Log → TablesView → Type 0
-    Known log t = ((came : List ℕ) × (taken : List ChunkView) × HoldsAt clock secret c came taken log (view c t)) ⊎ IsAway c t
+    Known log t = ((came : List ℕ) × (taken : List ChunkView) × HoldsAt clock secret start c came taken log (view c t)) ⊎ IsAway c t
 
     -- a connection that is opened
     pub opens : (log : Log) (old : FrontView) → IsAway c old.tables → Free c old.tables
-        → HoldsAt clock secret c [] [] log (view c (inputs.opened c old).tables) × Free c (inputs.opened c old).tables
+        → HoldsAt clock secret start c [] [] log (view c (inputs.opened c old).tables) × Free c (inputs.opened c old).tables
     opens log old away free =
         let t = old.tables in
         let none : phase_of t.streams c ≡ None = ap (λ (w : View). phase_in w.0) away in
         let there = get-insert-here nat_cmp_total nat_cmp-IsAntisymmetric t.streams c stream.opened in
         let opened : view c (inputs.opened c old).tables ≡ (Some stream.opened, []) =
         ap (λ o. (o, on c t.unsent)) there ∙ ap (λ (w : View). (Some stream.opened, w.1)) away in (
-          subst (HoldsAt clock secret c [] [] log) (sym opened) (refl, no_frame, refl, refl),
+          subst (HoldsAt clock secret start c [] [] log) (sym opened) (refl, no_frame, refl, refl),
           record {
             seat = λ session sits. absurd (none_some (Speaking session) (sym none ∙ free.seat session sits));
             watch = λ w waits own. absurd (none_speaks (phase_of t.streams c) none (free.watch w waits own));
           },
         )
 
-    module _ (log : Log) (old new : FrontView) (few : KeepsFew old) (reported : IsBehind clock secret log old) (free : Free c old.tables) where
+    module _ (log : Log) (old new : FrontView) (few : KeepsFew old) (reported : IsBehind clock secret start log old) (free : Free c old.tables) where
       -- after a step
       abbrev Then : (step : Step) → Does step old new → Type 0
       Then step does = Known (log ++ step_log step old new does) new.tables × Free c new.tables
@@ -131,7 +132,7 @@ module _ (c : ℕ) where
       opens_away d does away (inl same) =
           let is : new ≡ inputs.opened c old = does ∙ ap (λ x. inputs.opened x old) same in
           let done = opens (log ++ []) old away free in (
-            inl ([], [], subst (λ (v : FrontView). HoldsAt clock secret c [] [] (log ++ []) (view c v.tables)) (sym is) done.0),
+            inl ([], [], subst (λ (v : FrontView). HoldsAt clock secret start c [] [] (log ++ []) (view c v.tables)) (sym is) done.0),
             subst (λ (v : FrontView). Free c v.tables) (sym is) done.1,
           )
       opens_away d does away (inr other) = calm_away (Takes (Opened d)) does away (others.opens_elsewhere c d other old new does)
@@ -162,14 +163,14 @@ module _ (c : ℕ) where
       step_away Took is away = calm_away Took is away (fronts.becomes c old new (all_taken old) is (same c old.tables))
 
       -- the connection is there
-      module _ (came : List ℕ) (taken : List ChunkView) (has : HoldsAt clock secret c came taken log (view c old.tables)) where
+      module _ (came : List ℕ) (taken : List ChunkView) (has : HoldsAt clock secret start c came taken log (view c old.tables)) where
         not_free : phase_of old.tables.streams c ≡ None → ⊥
-        not_free none = subst (λ phase. Holds clock secret c came (taken ++ on c old.tables.unsent) log phase
+        not_free none = subst (λ phase. Holds clock secret start c came (taken ++ on c old.tables.unsent) log phase
             (bytes_in (finite.get old.tables.streams c))) none has
 
         stays_there : (step : Step) → Stays c step → (does : Does step old new) → Then step does
         stays_there step stays does =
-            let done = step_stays clock secret c came taken log old new few reported has free step stays does in
+            let done = step_stays clock secret start c came taken log old new few reported has free step stays does in
             (inl (came ++ came_at c step old, taken ++ sent_at c step old, done.0), done.1)
 
         opens_there : (d : ℕ) → IsFree c (Takes (Opened d)) old → (does : Does (Takes (Opened d)) old new) → (d ≡ c) ⊎ (d ≢ c)
@@ -191,19 +192,19 @@ module _ (c : ℕ) where
       step_before (inr away) step once does = step_away step does away
 
     -- all of them
-    pub runs_before : (steps : List Step) (log : Log) (old new : FrontView) → KeepsFew old → IsBehind clock secret log old → Free c old.tables
+    pub runs_before : (steps : List Step) (log : Log) (old new : FrontView) → KeepsFew old → IsBehind clock secret start log old → Free c old.tables
         → Known log old.tables → (runs : Runs steps old new) → GivesOnce c steps old new runs
         → Known (log ++ run_log steps old new runs) new.tables × Free c new.tables
-        × IsBehind clock secret (log ++ run_log steps old new runs) new × KeepsFew new
+        × IsBehind clock secret start (log ++ run_log steps old new runs) new × KeepsFew new
     runs_before [] log old new few reported free known is once =
-        subst (λ (l : Log). Known l new.tables × Free c new.tables × IsBehind clock secret l new × KeepsFew new) (sym (append-nil log))
-        (subst (λ (v : FrontView). Known log v.tables × Free c v.tables × IsBehind clock secret log v × KeepsFew v) (sym is)
+        subst (λ (l : Log). Known l new.tables × Free c new.tables × IsBehind clock secret start l new × KeepsFew new) (sym (append-nil log))
+        (subst (λ (v : FrontView). Known log v.tables × Free c v.tables × IsBehind clock secret start log v × KeepsFew v) (sym is)
         (known, free, reported, few))
     runs_before (step ∷ steps) log old new few reported free known runs once =
         let middle = runs.0 in
         let now = step_log step old middle runs.1 in
         let done = step_before log old middle few reported free known step once.0 runs.1 in
-        subst (λ (l : Log). Known l new.tables × Free c new.tables × IsBehind clock secret l new × KeepsFew new)
+        subst (λ (l : Log). Known l new.tables × Free c new.tables × IsBehind clock secret start l new × KeepsFew new)
         (append_assoc log now (run_log steps middle new runs.2))
         (runs_before steps (log ++ now) middle new ((goes step old middle few runs.1).few few)
-        (goes_behind clock secret step log old middle few reported runs.1) done.1 done.0 runs.2 once.1)
+        (goes_behind clock secret start step log old middle few reported runs.1) done.1 done.0 runs.2 once.1)

@@ -6,7 +6,8 @@ use Rattle.zcalls.specs.declared.call.Call.{Call}
 use Rattle.zcalls.specs.declared.reply.Reply.{Reply}
 use Rattle.zconnections.specs.Tables.{TablesView}
 use Rattle.zresponses.specs.effects.Looking.{seen}
-use Rattle.zfront.specs.Front.{FrontView, with_tables, may_end, gone_from, swept, took_unnamed, looks, looked_if, tidied_if, tidied}
+use Rattle.zfront.specs.Front.{FrontView, with_tables, ending, may_end, gone_from, replies_to, swept, took_unnamed, looks, looked_if, tidied_if}
+use Rattle.zfront.specs.Front.{tidied_of, watched}
 use Rattle.zfront_laws.proofs.frames_lemmas.Calm as table
 use Rattle.zfront_laws.proofs.frames_lemmas.Calm.{Calm}
 
@@ -28,10 +29,14 @@ module _ (c : ℕ) where
   looks_if false paths v = table.same c v.tables
   looks_if true paths v = table.reports_all c (seen v.tree.zxid paths (looks v.tree paths)) v.tables
 
-  tidies_if : (may : Bool) (replies : List Reply) (paths : List Path) (v : FrontView) → Calm c v.tables (tidied_if may replies paths v).tables
-  tidies_if false replies paths v = table.same c v.tables
-  tidies_if true replies paths v =
-      both v (swept v) (looked_if (took_unnamed replies v) paths (swept v)) (table.sweeps_all c (gone_from v) v.tables) (looks_if (took_unnamed replies v) paths (swept v))
+  tidies_if : (may : Bool) (replies : List Reply) (ids : List ℕ) (paths : List Path) (v : FrontView)
+      → Calm c v.tables (tidied_if may replies ids paths v).tables
+  tidies_if false replies ids paths v = table.same c v.tables
+  tidies_if true replies ids paths v =
+      both v (swept ids v) (looked_if (took_unnamed replies ids v) paths (swept ids v)) (table.sweeps_all c (gone_from ids v) v.tables)
+      (looks_if (took_unnamed replies ids v) paths (swept ids v))
 
-  pub tidies : (calls : List Call) (replies : List Reply) (paths : List Path) (old new : FrontView) → new ≡ tidied calls replies paths old → Calm c old.tables new.tables
-  tidies calls replies paths old new is = becomes old new (tidied calls replies paths old) is (tidies_if (list_any may_end calls) replies paths old)
+  pub tidies : (calls : List Call) (was v new : FrontView) → new ≡ tidied_of calls was v → Calm c v.tables new.tables
+  tidies calls was v new is =
+      becomes v new (tidied_of calls was v) is
+      (tidies_if (list_any may_end calls) (replies_to calls was) (ending calls was.tree) (watched calls was) v)

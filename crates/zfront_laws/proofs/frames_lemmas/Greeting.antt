@@ -161,26 +161,26 @@ module _ (c : ℕ) where
 
       -- a session was opened, or not
       met_opened : (replies : List Reply) (old : TablesView) → greeting.session_id ≡ pos 0 → IsSilent old → Free c old
-          → Met clock secret c (bytes ∷ []) tree (zip (opening clock.tick greeting ∷ []) replies) old
-          (opened clock.tick secret greeting c replies old)
+          → Met clock secret c (bytes ∷ []) tree (zip (opening clock.terms.tick greeting ∷ []) replies) old
+          (opened clock.terms.tick secret greeting c replies old)
       met_opened [] old new silent free = met_closed [] old silent free
       met_opened (Opened session ticks ∷ replies) old new silent free =
-          let log = (opening clock.tick greeting, Opened session ticks) ∷ [] in
+          let log = (opening clock.terms.tick greeting, Opened session ticks) ∷ [] in
           let speaking = phase_there old.streams (Speaking session) silent in
-          met_reported session (response_frame greeting (millis_reported clock.tick ticks) (long_of session) (password_of secret session)) log
+          met_reported session (response_frame greeting (millis_reported clock.terms.tick ticks) (long_of session) (password_of secret session)) log
           old (attachment session c old) (record { greeting = greeting; reads = reads; has = inl ([], ticks, new, refl, refl) }) refl speaking
           (free-attachment c session old free silent speaking)
       met_opened (reported ∷ replies) old new silent free =
-          met_closed (zip (opening clock.tick greeting ∷ []) (reported ∷ replies)) old silent free
+          met_closed (zip (opening clock.terms.tick greeting ∷ []) (reported ∷ replies)) old silent free
 
       -- a client comes back
       met_back : (session : ℕ) (sits : Session) (old : TablesView) → greeting.session_id ≡ pos session
           → finite.get tree.sessions session ≡ Some sits → IsSilent old → Free c old
           → Met clock secret c (bytes ∷ []) tree [] old
-          (came_back clock.tick greeting session sits.timeout (password_of secret session) c old)
+          (came_back clock.terms.tick greeting session sits.timeout (password_of secret session) c old)
       met_back session sits old asks there silent free =
           let u = moved session old in
-          let timeout = millis_reported clock.tick sits.timeout in
+          let timeout = millis_reported clock.terms.tick sits.timeout in
           let password = password_of secret session in
           let same = moved_view session old silent free in
           let silent_then : IsSilent u = ap (λ (w : View). phase_in w.0) same ∙ silent in
@@ -213,21 +213,21 @@ module _ (c : ℕ) where
 
           by : (o : Option Session) → finite.get v.tree.sessions session ≡ o
               → Met v.clock v.secret c (bytes ∷ []) v.tree [] v.tables
-              (option_map_or (λ s. came_back v.clock.tick greeting session s.timeout password c v.tables) o (turned_away greeting c v.tables))
+              (option_map_or (λ s. came_back v.clock.terms.tick greeting session s.timeout password c v.tables) o (turned_away greeting c v.tables))
           by None none = met_turned v.clock v.secret bytes v.tree greeting reads v.tables silent free
           by (Some sits) there = met_back v.clock v.secret bytes v.tree greeting reads session sits v.tables asks there silent free
       met_returned (negsuc n) asks = met_turned v.clock v.secret bytes v.tree greeting reads v.tables silent free
 
       greets_if : (is_new : Bool) → int_eq greeting.session_id (pos 0) ≡ is_new
-          → Meeting c (bytes ∷ []) (done_by (if is_new then opening v.clock.tick greeting ∷ [] else []) v) v
+          → Meeting c (bytes ∷ []) (done_by (if is_new then opening v.clock.terms.tick greeting ∷ [] else []) v) v
           (if is_new then with_session greeting c v else with_tables (returned greeting greeting.session_id c v) v)
       greets_if true fresh =
-          met_opened v.clock v.secret bytes v.tree greeting reads (replies_to (opening v.clock.tick greeting ∷ []) v) v.tables
+          met_opened v.clock v.secret bytes v.tree greeting reads (replies_to (opening v.clock.terms.tick greeting ∷ []) v) v.tables
           (same_int greeting.session_id (pos 0) fresh) silent free
       greets_if false fresh = met_returned greeting.session_id refl
 
       greets_unless : (ahead : Bool) → Meeting c (bytes ∷ [])
-          (done_by (if ahead then [] else if int_eq greeting.session_id (pos 0) then opening v.clock.tick greeting ∷ [] else []) v) v
+          (done_by (if ahead then [] else if int_eq greeting.session_id (pos 0) then opening v.clock.terms.tick greeting ∷ [] else []) v) v
           (if ahead then with_tables (closed c v.tables) v else if int_eq greeting.session_id (pos 0) then with_session greeting c v
           else with_tables (returned greeting greeting.session_id c v) v)
       greets_unless true = met_closed v.clock v.secret bytes v.tree [] v.tables silent free

@@ -45,7 +45,7 @@ use Rattle.zresponses.specs.effects.Replying.{absorbed_all, replied}
 use Rattle.zresponses.specs.effects.Watching.{granted_all, first_fault}
 use Rattle.zresponses.specs.effects.Wishes.{wishes}
 use Rattle.zfront.specs.declared.limits.TheConstants.{MAX_KEPT}
-use Rattle.zfront.specs.Front.{FrontView, with_tables, asked, replies_to, watched}
+use Rattle.zfront.specs.Front.{FrontView, with_tables, asked, replies_to}
 use Rattle.zfront.specs.Greeting.{opening, opened, with_session, returned, greeted_by, greeted}
 use Rattle.zfront.specs.Inputs as inputs
 use Rattle.zfront.specs.Reading.{HandlesIn, Handles, HandlesAll, Reads, is_too_long, kept, keeps, Keeps}
@@ -108,7 +108,7 @@ module _ (c d : ℕ) (other : d ≢ c) where
   makes calls r old new has =
       let middle = with_answer calls d r old in
       front.both c old middle new (answers old.clock (now_of (asked calls old).tree) r calls (replies_to calls old) old.tables)
-      (front.tidies c calls (replies_to calls old) (watched old) middle new has)
+      (front.tidies c calls old middle new has)
 
   tells : (answer : Answer) (r : Request) (old new : FrontView) → Tells answer d r old new → Calm c old.tables new.tables
   tells answer r old new is =
@@ -128,7 +128,7 @@ module _ (c d : ℕ) (other : d ≢ c) where
   requests (Err fault) session old new is = front.retabled c (closed d old.tables) old new is (table.closes c d old.tables)
   requests (Ok r) session old new has =
       front.both c old (touched_by session old) new (touches c session old)
-      (acts_or (walked session r.asked old.tree) (calls_in old.clock.tick session r.asked) r (touched_by session old) new has)
+      (acts_or (walked session r.asked old.tree) (calls_in old.clock.terms session r.asked) r (touched_by session old) new has)
 
   -- greetings
   welcomes : (tick : ℕ) (greeting : ConnectRequest) (session ticks : ℕ) (password : List ℕ) (t : TablesView)
@@ -166,10 +166,10 @@ module _ (c d : ℕ) (other : d ≢ c) where
   returns : (greeting : ConnectRequest) (id : ℤ) (v : FrontView) → Calm c v.tables (returned greeting id d v)
   returns greeting (pos session) v =
       elim (finite.get v.tree.sessions session) as
-      (λ o. Calm c v.tables (option_map_or (λ s. came_back v.clock.tick greeting session s.timeout (password_of v.secret session) d v.tables)
+      (λ o. Calm c v.tables (option_map_or (λ s. came_back v.clock.terms.tick greeting session s.timeout (password_of v.secret session) d v.tables)
       o (turned_away greeting d v.tables))) [
         | None ↦ turns_away greeting v.tables
-        | Some s ↦ comes_back v.clock.tick greeting session s.timeout (password_of v.secret session) v.tables
+        | Some s ↦ comes_back v.clock.terms.tick greeting session s.timeout (password_of v.secret session) v.tables
       ]
   returns greeting (negsuc n) v = turns_away greeting v.tables
 
@@ -182,7 +182,7 @@ module _ (c d : ℕ) (other : d ≢ c) where
   greets_if : (is_new : Bool) (greeting : ConnectRequest) (v : FrontView)
       → Calm c v.tables (if is_new then with_session greeting d v else with_tables (returned greeting greeting.session_id d v) v).tables
   greets_if true greeting v =
-      opens_by v.clock.tick v.secret greeting (replies_to (opening v.clock.tick greeting ∷ []) v) v.tables
+      opens_by v.clock.terms.tick v.secret greeting (replies_to (opening v.clock.terms.tick greeting ∷ []) v) v.tables
   greets_if false greeting v = returns greeting greeting.session_id v
 
   greets_unless : (ahead : Bool) (greeting : ConnectRequest) (v : FrontView)
@@ -291,7 +291,7 @@ module _ (c : ℕ) where
       front.both c old middle new
       (table.alike c old.tables middle.tables refl (free-attachments c old.tables (all_rested old.tables.attachments)
       (rests_alike old.tables.attachments).0))
-      (front.tidies c calls (replies_to calls old) (watched old) middle new has)
+      (front.tidies c calls old middle new has)
 
   pub ticks : (old new : FrontView) → Ticks old new → Calm c old.tables new.tables
   ticks old new has = ticks_by (tick_calls (touched_ids old.tables.attachments)) old new has

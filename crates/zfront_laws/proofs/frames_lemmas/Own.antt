@@ -24,7 +24,7 @@ use Rattle.zresponses.specs.effects.Replying.{absorbed_all, replied}
 use Rattle.zresponses.specs.effects.Watching.{IsFaultOf, granted_all, first_fault}
 use Rattle.zresponses.specs.effects.Wishes.{wishes}
 use Rattle.zresponses.specs.Stats.{told}
-use Rattle.zfront.specs.Front.{FrontView, asked, replies_to, watched}
+use Rattle.zfront.specs.Front.{FrontView, asked, replies_to}
 use Rattle.zfront.specs.Reading.{HandlesIn, Handles, HandlesAll}
 use Rattle.zfront.specs.Requests.{touched_by, with_answer, Tells, Acts, ActsOr, Requests, request_in}
 use Rattle.zfront.specs.Walks.{walked}
@@ -51,7 +51,7 @@ module _ (clock : Clock) (secret : List ℕ) (session : ℕ) (bytes : List ℕ) 
       (bytes, [], log, [], refl, sym (append-nil log), is, answered_calm clock secret session false (tree_behind tree log) [] end calm)
 
   says_so : (r : Request) → request_in clock.base bytes ≡ Ok r → (after tree : Tree) (part : Log) (answer : Answer) (walk : Option Answer)
-      (meaning : Meaning (List Call)) → after ≡ tree → walked session r.asked after ≡ walk → calls_in clock.tick session r.asked ≡ meaning
+      (meaning : Meaning (List Call)) → after ≡ tree → walked session r.asked after ≡ walk → calls_in clock.terms session r.asked ≡ meaning
       → SaysOr walk meaning clock (now_of after) r.asked part answer
       → IsAnswer clock secret session bytes (answer_frame (told clock.base after.zxid) r.xid answer) tree part
   says_so r reads after tree part answer walk meaning same walks means says = record {
@@ -63,8 +63,8 @@ module _ (clock : Clock) (secret : List ℕ) (session : ℕ) (bytes : List ℕ) 
     frames = ap (λ (t : Tree). answer_frame (told clock.base t.zxid) r.xid answer) same;
     stands = refl;
     says =
-        subst (λ (t : Tree). SaysOr (walked session r.asked t) (calls_in clock.tick session r.asked) clock (now_of t) r.asked part answer) same
-        (subst (λ w. SaysOr w (calls_in clock.tick session r.asked) clock (now_of after) r.asked part answer) (sym walks)
+        subst (λ (t : Tree). SaysOr (walked session r.asked t) (calls_in clock.terms session r.asked) clock (now_of t) r.asked part answer) same
+        (subst (λ w. SaysOr w (calls_in clock.terms session r.asked) clock (now_of after) r.asked part answer) (sym walks)
         (subst (λ m. SaysOr walk m clock (now_of after) r.asked part answer) (sym means) says));
   }
 
@@ -72,7 +72,7 @@ module _ (c : ℕ) where
   module _ (session : ℕ) (bytes : List ℕ) where
     module _ (r : Request) where
       -- the calls were answered
-      answers_all : (calls : List Call) (v : FrontView) → request_in v.clock.base bytes ≡ Ok r → walked session r.asked v.tree ≡ None → calls_in v.clock.tick session r.asked ≡ Ok calls
+      answers_all : (calls : List Call) (v : FrontView) → request_in v.clock.base bytes ≡ Ok r → walked session r.asked v.tree ≡ None → calls_in v.clock.terms session r.asked ≡ Ok calls
           → speaks (phase_of v.tables.streams c) ≡ true → Free c v.tables
           → Serving c session (done_by calls v) (bytes ∷ []) v (with_answer calls c r v)
       answers_all calls v reads walks means speaking free =
@@ -104,7 +104,7 @@ module _ (c : ℕ) where
 
       -- an answer without a call
       tells : (answer : Answer) (walk : Option Answer) (meaning : Meaning (List Call)) (old new : FrontView)
-          → request_in old.clock.base bytes ≡ Ok r → walked session r.asked old.tree ≡ walk → calls_in old.clock.tick session r.asked ≡ meaning
+          → request_in old.clock.base bytes ≡ Ok r → walked session r.asked old.tree ≡ walk → calls_in old.clock.terms session r.asked ≡ meaning
           → SaysOr walk meaning old.clock (now_of old.tree) r.asked [] answer → Free c old.tables
           → Tells answer c r old new → Serving c session [] (bytes ∷ []) old new
       tells answer walk meaning old new reads walks means says free is =
@@ -116,7 +116,7 @@ module _ (c : ℕ) where
           is reported.2 (reported.3 free)
 
       acts : (meaning : Meaning (List Call)) (old new : FrontView) → request_in old.clock.base bytes ≡ Ok r
-          → walked session r.asked old.tree ≡ None → calls_in old.clock.tick session r.asked ≡ meaning
+          → walked session r.asked old.tree ≡ None → calls_in old.clock.terms session r.asked ≡ meaning
           → speaks (phase_of old.tables.streams c) ≡ true → Free c old.tables → Acts meaning c r old new
           → Serving c session (done_by (meant meaning) old) (bytes ∷ []) old new
       acts (Err (Refused code)) old new reads walks means speaking free is =
@@ -134,14 +134,14 @@ module _ (c : ℕ) where
           subst (λ (l : Log). Answered old.clock old.secret session tree l (bytes ∷ []) (followed one.0 talk)) (append-nil log)
           (answered_both old.clock old.secret session tree log [] (bytes ∷ []) [] one.0 talk one.1
           (answered_calm old.clock old.secret session speaking_then (tree_behind tree log) [] talk calm) (λ ends. refl)))
-          (front.tidies c calls (replies_to calls old) (watched old) middle new makes)
+          (front.tidies c calls old middle new makes)
 
       acts_or : (walk : Option Answer) (meaning : Meaning (List Call)) (old new : FrontView) → request_in old.clock.base bytes ≡ Ok r
-          → walked session r.asked old.tree ≡ walk → calls_in old.clock.tick session r.asked ≡ meaning → speaks (phase_of old.tables.streams c) ≡ true → Free c old.tables
+          → walked session r.asked old.tree ≡ walk → calls_in old.clock.terms session r.asked ≡ meaning → speaks (phase_of old.tables.streams c) ≡ true → Free c old.tables
           → ActsOr walk meaning c r old new → Serving c session (done_by (meant meaning) old) (bytes ∷ []) old new
       acts_or (Some answer) meaning old new reads walks means speaking free is =
           subst (λ calls. Serving c session (done_by calls old) (bytes ∷ []) old new)
-          (sym (ap meant (sym means) ∙ walks_call_nothing old.clock.tick session r.asked old.tree answer walks))
+          (sym (ap meant (sym means) ∙ walks_call_nothing old.clock.terms session r.asked old.tree answer walks))
           (tells answer (Some answer) meaning old new reads walks means (refl, refl) free is)
       acts_or None meaning old new reads walks means speaking free has = acts meaning old new reads walks means speaking free has
 
@@ -151,7 +151,7 @@ module _ (c : ℕ) where
     serves_by (Err fault) old new reads speaking free is =
         shuts c (λ talk. Answered old.clock old.secret session old.tree [] (bytes ∷ []) talk) (omega arith) old new is free
     serves_by (Ok r) old new reads speaking free acting =
-        acts_or r (walked session r.asked old.tree) (calls_in old.clock.tick session r.asked) (touched_by session old) new reads refl refl speaking ((touches c session old free).1) acting
+        acts_or r (walked session r.asked old.tree) (calls_in old.clock.terms session r.asked) (touched_by session old) new reads refl refl speaking ((touches c session old free).1) acting
 
   -- a frame on a connection with a session
   pub handles : (session : ℕ) (bytes : List ℕ) (old new : FrontView) → phase_of old.tables.streams c ≡ Some (Speaking session) → Free c old.tables

@@ -3,7 +3,7 @@ use Rattle.std.proofs.Common.{◌≡◌, ◌⊎◌, inl, inr, ◌∙◌, ℕ, �
 use Rattle.std.proofs.Common.{refl, sym, ap, subst, append_assoc, arith}
 use Rattle.std.specs.Option.{MatchOption}
 use Rattle.std.proofs.lemmas.List.{append-nil}
-use Rattle.ztree.specs.Tree.{Tree, opening_tree}
+use Rattle.ztree.specs.Tree.{Tree}
 use Rattle.zcalls.specs.declared.reply.Reply.TheVariants.{Opened}
 use Rattle.zresponses.specs.declared.clock.Clock.{Clock}
 use Rattle.ztree_service.specs.log.Logs.{Log}
@@ -138,7 +138,7 @@ module _ (clock : Clock) (secret : List ℕ) where
               more ++ one.0,
               one.1,
               one.2,
-              ap (λ (l : Log). more ++ l) one.3 ∙ sym (append_assoc more one.0 ((opening clock.tick a.greeting, Opened session one.1) ∷ [])),
+              ap (λ (l : Log). more ++ l) one.3 ∙ sym (append_assoc more one.0 ((opening clock.terms.tick a.greeting, Opened session one.1) ∷ [])),
               one.4,
             )
         by (inr other) = inr other
@@ -233,9 +233,9 @@ module _ (clock : Clock) (secret : List ℕ) where
         subst (λ fs. length (bytes ∷ (frames ++ fs)) ≤ 1) (sym (none refl)) (subst (λ fs. length (bytes ∷ fs) ≤ 1) (sym (append-nil frames)) first)
 
   -- the text of a word stays the text of a front
-  text_wider : (text : FrontView → List ℕ) (log more : Log) (frames : List (List ℕ)) (talk : Talk) → SaysText clock secret text log frames talk
-      → SaysText clock secret text (log ++ more) frames talk
-  text_wider text log more frames talk has =
+  text_wider : (start : Tree) (text : FrontView → List ℕ) (log more : Log) (frames : List (List ℕ)) (talk : Talk) → SaysText clock secret start text log frames talk
+      → SaysText clock secret start text (log ++ more) frames talk
+  text_wider start text log more frames talk has =
       let says = has.1 in (
         has.0,
         (
@@ -251,20 +251,20 @@ module _ (clock : Clock) (secret : List ℕ) where
       )
 
   -- it begins with no word
-  pub unworded : (came : List ℕ) (log : Log) (frames : List (List ℕ)) (talk : Talk) → word_in came ≡ None
-      → (session : ℕ) × Greeted clock secret session opening_tree log frames talk
-      → IsTalk clock secret came log frames talk
-  unworded came log frames talk none has =
-      subst (λ asked. MatchOption asked ((session : ℕ) × Greeted clock secret session opening_tree log frames talk)
-      (λ word. SaysText clock secret (text_of_word word) log frames talk)) (sym none) has
+  pub unworded : (start : Tree) (came : List ℕ) (log : Log) (frames : List (List ℕ)) (talk : Talk) → word_in came ≡ None
+      → (session : ℕ) × Greeted clock secret session start log frames talk
+      → IsTalk clock secret start came log frames talk
+  unworded start came log frames talk none has =
+      subst (λ asked. MatchOption asked ((session : ℕ) × Greeted clock secret session start log frames talk)
+      (λ word. SaysText clock secret start (text_of_word word) log frames talk)) (sym none) has
 
-  pub talk_wider : (came : List ℕ) (log more : Log) (frames : List (List ℕ)) (talk : Talk) → IsTalk clock secret came log frames talk
-      → IsTalk clock secret came (log ++ more) frames talk
-  talk_wider came log more frames talk has =
-      elim (word_in came) as (λ asked. MatchOption asked ((session : ℕ) × Greeted clock secret session opening_tree log frames talk)
-      (λ word. SaysText clock secret (text_of_word word) log frames talk)
-      → MatchOption asked ((session : ℕ) × Greeted clock secret session opening_tree (log ++ more) frames talk)
-      (λ word. SaysText clock secret (text_of_word word) (log ++ more) frames talk)) [
-        | None ↦ λ greeted. (greeted.0, greeted_wider greeted.0 opening_tree log more frames talk greeted.1)
-        | Some word ↦ λ said. text_wider (text_of_word word) log more frames talk said
+  pub talk_wider : (start : Tree) (came : List ℕ) (log more : Log) (frames : List (List ℕ)) (talk : Talk) → IsTalk clock secret start came log frames talk
+      → IsTalk clock secret start came (log ++ more) frames talk
+  talk_wider start came log more frames talk has =
+      elim (word_in came) as (λ asked. MatchOption asked ((session : ℕ) × Greeted clock secret session start log frames talk)
+      (λ word. SaysText clock secret start (text_of_word word) log frames talk)
+      → MatchOption asked ((session : ℕ) × Greeted clock secret session start (log ++ more) frames talk)
+      (λ word. SaysText clock secret start (text_of_word word) (log ++ more) frames talk)) [
+        | None ↦ λ greeted. (greeted.0, greeted_wider greeted.0 start log more frames talk greeted.1)
+        | Some word ↦ λ said. text_wider start (text_of_word word) log more frames talk said
       ] has

@@ -25,6 +25,7 @@ use Rattle.zwatches.specs.declared.kind.Kind.TheVariants.{Data, Missing, Childre
 use Rattle.zwatches.specs.declared.watch.Watch.{Watch}
 use Rattle.zwatches.specs.Watches.{fires_once}
 use Rattle.zwatches.specs.Events.{fires}
+use Rattle.zops.specs.RestoredLaws.{IsSettled}
 use Rattle.zfront_laws.specs.watches.Watching.{Scene, tree_of, IsSameAt, takes_more}
 use Rattle.zfront_laws.proofs.watches_lemmas.Keeping.{IsRight, there_children, there_data}
 use Rattle.zfront_laws.proofs.watches_lemmas.Scenes.{is_lawful, is_older}
@@ -89,7 +90,7 @@ at_its_path : (path : Path) (w : Watch) → takes_more w.kind ≡ false → (w.k
 at_its_path path w is (inl recursive) = absurd (true≢false (sym (ap takes_more recursive) ∙ is))
 at_its_path path w is (inr same) = same
 
-module _ (s : Scene) (u : Act) (e : Event) (w : Watch) (before known : Nodes) where
+module _ (s : Scene) (settled : IsSettled s.start) (u : Act) (e : Event) (w : Watch) (before known : Nodes) where
   abbrev t : Tree
   t = tree_of s
 
@@ -107,14 +108,14 @@ module _ (s : Scene) (u : Act) (e : Event) (w : Watch) (before known : Nodes) wh
       let change = changes_with_events u (step t 0 u).1 e among in
       differs but_children (λ n. n.mzxid) (λ m n is. ap (λ (n : Node). n.mzxid) is) (t.zxid + 1) t.nodes now e.path
       ((update_touches t u e.path).0 (e, among, reports, refl))
-      (λ n found. subst (λ z. n.mzxid < z) (next change) (is_older s u e.path n change found).mzxid)
+      (λ n found. subst (λ z. n.mzxid < z) (next change) (is_older s settled u e.path n change found).mzxid)
 
   children_differ : Among e es → reports_loss e.kind ≡ true → Stood t.nodes now e.path → children_at now e.path ≡ children_at t.nodes e.path → ⊥
   children_differ among reports =
       let change = changes_with_events u (step t 0 u).1 e among in
       differs (λ n. n.pzxid) (λ n. n.pzxid) (λ m n is. is) (t.zxid + 1) t.nodes now e.path
       ((update_touches t u e.path).1 (e, among, reports, refl))
-      (λ n found. subst (λ z. n.pzxid < z) (next change) (is_older s u e.path n change found).pzxid)
+      (λ n found. subst (λ z. n.pzxid < z) (next change) (is_older s settled u e.path n change found).pzxid)
 
   changed : Among e es → fires e.kind e.path w ≡ true → IsSameAt w.kind w.path before t.nodes → Stood t.nodes now e.path
       → finite.get known e.path ≡ finite.get before e.path → IsSameAt w.kind w.path known now → ⊥
@@ -130,7 +131,7 @@ module _ (s : Scene) (u : Act) (e : Event) (w : Watch) (before known : Nodes) wh
       → IsSameAt w.kind w.path before t.nodes → (fires_once w.kind ≡ true → known ≡ before)
       → (AreApart es → finite.get known e.path ≡ finite.get before e.path)
       → (IsSameAt w.kind w.path known now → ⊥) ⊎ ((takes_more w.kind ≡ true) × OfMulti u)
-  has_changed lawful among fired right was once untold = by (single_or_multi t u (is_lawful s) lawful)
+  has_changed lawful among fired right was once untold = by (single_or_multi t u (is_lawful s settled) lawful)
     where
       in_multi : OfMulti u → (b : Bool) → takes_more w.kind ≡ b → (IsSameAt w.kind w.path known now → ⊥) ⊎ ((takes_more w.kind ≡ true) × OfMulti u)
       in_multi multi true more = inr (more, multi)

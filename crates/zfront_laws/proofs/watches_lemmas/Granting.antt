@@ -96,6 +96,7 @@ module _ (s : Scene) (c : ℕ) (kind : Kind) (path : Path) where
   waits : (v : FrontView) → At v s → IsRight kind path (tree_of s).nodes
       → At (with_tables (waiting c kind path v.tables) v) (after (Set c kind path) s)
   waits v there right = record {
+    settled = there.settled;
     base = there.base;
     tables = ap (waiting c kind path) there.tables;
     tree = there.tree;

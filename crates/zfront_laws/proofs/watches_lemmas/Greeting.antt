@@ -70,10 +70,10 @@ too_new id zxid is below = absurd (omega (arith, is, below))
 
 module _ (greeting : ConnectRequest) (c : ℕ) (old : FrontView) (s : Scene) (fine : Fine old) (there : At old s) where
   abbrev ticks : ℕ
-  ticks = ticks_asked old.clock.tick greeting.timeout
+  ticks = ticks_asked old.clock.terms.tick greeting.timeout
 
   abbrev calls : List Call
-  calls = opening old.clock.tick greeting ∷ []
+  calls = opening old.clock.terms.tick greeting ∷ []
 
   abbrev v : FrontView
   v = asked calls old
@@ -86,7 +86,7 @@ module _ (greeting : ConnectRequest) (c : ℕ) (old : FrontView) (s : Scene) (fi
   here = nothing_taken calls old s there (open_leaves old.tree ticks)
 
   abbrev done : Reply → FrontView
-  done reported = with_tables (opened v.clock.tick v.secret greeting c (reported ∷ []) v.tables) v
+  done reported = with_tables (opened v.clock.terms.tick v.secret greeting c (reported ∷ []) v.tables) v
 
   welcomes : {Asks : Asking} (session granted : ℕ) → session ≡ old.tree.zxid + 1 → Reaches Asks (done (Opened session granted)) then_scene []
   welcomes session granted is =
@@ -96,7 +96,7 @@ module _ (greeting : ConnectRequest) (c : ℕ) (old : FrontView) (s : Scene) (fi
       still None None (with_tables t v) (done (Opened session granted)) then_scene []
       (moves_if None v then_scene t here (speaks_moves v.tables c session (finite.insert v.tables.attachments session (new_attachment c)))
       (λ all path n found. marks_stay v.tables.attachments session (new_attachment c) fresh n.owner (all path n found)))
-      (λ last this. greets_with (with_tables t v) last c greeting (millis_reported v.clock.tick granted) (long_of session) password this)
+      (λ last this. greets_with (with_tables t v) last c greeting (millis_reported v.clock.terms.tick granted) (long_of session) password this)
 
   opens_with : {Asks : Asking} (reported : Reply) → ((session granted : ℕ) → reported ≡ Opened session granted → session ≡ old.tree.zxid + 1)
       → Reaches Asks (done reported) then_scene []
@@ -117,29 +117,29 @@ turns_away greeting c v s there =
     (λ next here. closes None (with_tables t v) next c here)
 
 comes_back : {Asks : Asking} (greeting : ConnectRequest) (session granted : ℕ) (password : List ℕ) (c : ℕ) (v : FrontView) (s : Scene) → At v s
-    → Reaches Asks (with_tables (came_back v.clock.tick greeting session granted password c v.tables) v) s []
+    → Reaches Asks (with_tables (came_back v.clock.terms.tick greeting session granted password c v.tables) v) s []
 comes_back {Asks} greeting session granted password c v s there =
     elim (pointwise nat_eq (given greeting) password) as (λ b. Reaches Asks (with_tables (
     if b
-    then session_reported greeting session (millis_reported v.clock.tick granted) password c (taken_up session c v.tables)
+    then session_reported greeting session (millis_reported v.clock.terms.tick granted) password c (taken_up session c v.tables)
     else turned_away greeting c v.tables
     ) v) s []) [
       | true ↦
           let u = moved session v.tables in
           let t = taken_up session c v.tables in
-          let done = with_tables (session_reported greeting session (millis_reported v.clock.tick granted) password c t) v in
+          let done = with_tables (session_reported greeting session (millis_reported v.clock.terms.tick granted) password c t) v in
           still None None (with_tables u v) done s [] (moves_away None session v s there)
           (λ next here.
           still None None (with_tables t v) done next [] (moves None (with_tables u v) next t here
           (speaks_moves u c session t.attachments) (seated_keeps session c v.tables))
-          (λ last this. greets_with (with_tables t v) last c greeting (millis_reported v.clock.tick granted) (long_of session) password this))
+          (λ last this. greets_with (with_tables t v) last c greeting (millis_reported v.clock.terms.tick granted) (long_of session) password this))
       | false ↦ turns_away greeting c v s there
     ]
 
 returns : {Asks : Asking} (greeting : ConnectRequest) (id : ℤ) (c : ℕ) (v : FrontView) (s : Scene) → At v s → Reaches Asks (with_tables (returned greeting id c v) v) s []
 returns {Asks} greeting (pos session) c v s there =
     elim (finite.get v.tree.sessions session) as (λ o. Reaches Asks (with_tables (
-    option_map_or (λ row. came_back v.clock.tick greeting session row.timeout (password_of v.secret session) c v.tables) o
+    option_map_or (λ row. came_back v.clock.terms.tick greeting session row.timeout (password_of v.secret session) c v.tables) o
     (turned_away greeting c v.tables)
     ) v) s []) [
       | None ↦ turns_away greeting c v s there
@@ -154,7 +154,7 @@ greets_if : {Asks : Asking} (ahead is_new : Bool) (greeting : ConnectRequest) (c
     if ahead then with_tables (closed c v.tables) v else
     if is_new then with_session greeting c v else
     with_tables (returned greeting greeting.session_id c v) v
-    ) s (done_by (if ahead then [] else if is_new then opening v.clock.tick greeting ∷ [] else []) v)
+    ) s (done_by (if ahead then [] else if is_new then opening v.clock.terms.tick greeting ∷ [] else []) v)
 greets_if true is_new greeting c v s fine there = closes None v s c there
 greets_if false true greeting c v s fine there = opens greeting c v s fine there
 greets_if false false greeting c v s fine there = returns greeting greeting.session_id c v s there

@@ -88,7 +88,7 @@ still_holds t u set_at tables nodes holds = record {
 
 -- what a close or a tick took away is still to be told
 
-same_owner : (o : Option Node) (n : Node) → Some (but_children n) ≡ option_map but_children o → (m : Node) × (o ≡ Some m) × (m.owner ≡ n.owner)
+pub same_owner : (o : Option Node) (n : Node) → Some (but_children n) ≡ option_map but_children o → (m : Node) × (o ≡ Some m) × (m.owner ≡ n.owner)
 same_owner None n is = absurd (none_some (but_children n) (sym is))
 same_owner (Some m) n is = (m, refl, ap (λ (x : Node). x.owner) (sym (same_some (but_children n) (but_children m) is)))
 

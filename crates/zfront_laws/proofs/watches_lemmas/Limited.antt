@@ -103,7 +103,7 @@ module _ (limits : WatchLimits) where
   brings_all (step ∷ steps) s t brought is = brings_all steps brought.0 t brought.2 (brings step s brought.0 brought.1 is)
 
 pub every_front_keeps_its_limits : EveryFrontKeepsItsLimits
-every_front_keeps_its_limits limits t secret times is_kept before steps v left runs =
-    let first = opening_scene times.base before (beginning limits t secret times is_kept).tables in
-    let done = every_watch_is_reported limits t secret times is_kept before steps v left runs in
+every_front_keeps_its_limits limits t secret times is_kept start before steps v settled left runs =
+    let first = opening_scene times.base start before (beginning limits t secret times is_kept).tables in
+    let done = every_watch_is_reported limits t secret times is_kept start before steps v settled left runs in
     subst (Limited limits) done.2 (brings_all limits steps first done.0 done.1 (refl, (limits_are_kept limits).begins))

@@ -21,7 +21,7 @@ use Rattle.zconnections.specs.attachments.Attachments.{AttachmentsView, with_cha
 use Rattle.zconnections.specs.attachments.Attachments as seats
 use Rattle.zconnections.proofs.attachments_lemmas.Changed.{each_rests}
 use Rattle.zconnections.specs.Tables.{TablesView, is_open, session_in, without_seat, closing, closed, moved, taken_up}
-use Rattle.zconnections.specs.Sweeping.{owner_in, made_by, made_by_parts, is_gone, gone, made_one, some_made_one}
+use Rattle.zconnections.specs.Sweeping.{owner_in, made_by, made_by_parts, is_gone, made_one, some_made_one}
 use Rattle.zconnections.specs.buffers.Streams.{phase_of}
 use Rattle.zfront_laws.proofs.Seated.{Has, same_number, seat_here, seat_elsewhere}
 use Rattle.zfront_laws.proofs.watches_lemmas.Owners.{PartNames}
@@ -209,8 +209,8 @@ all_kept test (id ∷ ids) = by (test id) refl (all_kept test ids)
     by true is rest = (is, rest)
     by false is rest = rest
 
-pub all_gone : (sessions : Sessions) (m : AttachmentsView) → AllByRecursion (λ id. is_gone sessions id ≡ true) (gone sessions m)
-all_gone sessions m = all_kept (is_gone sessions) (finite.keys m)
+pub all_gone : (sessions : Sessions) (ids : List ℕ) → AllByRecursion (λ id. is_gone sessions id ≡ true) (filter (is_gone sessions) ids)
+all_gone sessions ids = all_kept (is_gone sessions) ids
 
 -- one of them made an ephemeral node
 any_more : (p : ℕ → Bool) (first : ℕ) (ids : List ℕ) (b : Bool) → list_any p ids ≡ true → list_any p (if b then first ∷ ids else ids) ≡ true
@@ -231,9 +231,6 @@ any_kept test p id (first ∷ ids) passes has among =
     by true ties false is rest = absurd (true≢false (sym passes ∙ ap test (tied_same nat_cmp_total nat_cmp-IsAntisymmetric id first ties) ∙ is))
     by false ties b is rest = any_more p first (filter test ids) b (rest (sym (ap (λ b. b || list_any (eq_by_cmp nat_cmp id) ids) ties) ∙ among))
 
-pub gone_made : (sessions : Sessions) (m : AttachmentsView) (id : ℕ) → finite.get sessions id ≡ None → made_one m id ≡ true
-    → some_made_one m (gone sessions m) ≡ true
-gone_made sessions m id none is =
-    let there = made_there m id is in
-    any_kept (is_gone sessions) (made_one m) id (finite.keys m) (ap (λ o. not (is_some o)) none) is
-    (sym (finite.contains_key-keys m id) ∙ ap is_some there.1)
+pub gone_made : (sessions : Sessions) (ids : List ℕ) (m : AttachmentsView) (id : ℕ) → finite.get sessions id ≡ None
+    → list_any (eq_by_cmp nat_cmp id) ids ≡ true → made_one m id ≡ true → some_made_one m (filter (is_gone sessions) ids) ≡ true
+gone_made sessions ids m id none listed is = any_kept (is_gone sessions) (made_one m) id ids (ap (λ o. not (is_some o)) none) is listed

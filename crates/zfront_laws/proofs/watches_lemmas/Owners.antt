@@ -5,16 +5,17 @@ use Rattle.std.specs.FinMap as finite
 use Rattle.ztree.specs.declared.term.Term.{Term}
 use Rattle.ztree.specs.declared.node.Node.{Node}
 use Rattle.ztree.specs.Lawful.{AllNodes}
-use Rattle.ztree.specs.Tree.{Tree, Path, Nodes, new_node, parent_of, with_node, with_child, without_child, with_data}
+use Rattle.ztree.specs.Tree.{Tree, Path, Nodes, new_node, parent_of, with_node, with_child, without_child, with_data, with_acl}
 use Rattle.zcalls.specs.declared.call.Create.{Create}
 use Rattle.zcalls.specs.declared.call.Delete.{Delete}
 use Rattle.zcalls.specs.declared.call.SetData.{SetData}
+use Rattle.zcalls.specs.declared.call.SetAcl.{SetAcl}
 use Rattle.zcalls.specs.declared.call.Part.{Part}
 use Rattle.zcalls.specs.declared.call.Part.TheVariants as part
-use Rattle.zcalls.specs.Part.{create_step, delete_step, set_step, part_step, made_path, owner_of, term_of}
+use Rattle.zcalls.specs.Part.{create_step, delete_step, set_step, acl_step, part_step, made_path, owner_of, term_of}
 use Rattle.zcalls.specs.Multi.{run}
 use Rattle.zcalls.proofs.Bounds.{all_insert, all_remove, all_changed}
-use Rattle.zcalls.proofs.Leaving.{Leaves, create_step-leaves, delete_step-leaves, set_step-leaves, check_step-leaves}
+use Rattle.zcalls.proofs.Leaving.{Leaves, create_step-leaves, delete_step-leaves, set_step-leaves, acl_step-leaves, check_step-leaves}
 use Rattle.zcalls.proofs.Leaving.{reported_as_part-leaves, and_then-leaves}
 
 -- each node's owner has the property
@@ -52,6 +53,12 @@ module _ (Q : ℕ → Type 0) where
       let P : Node → Type 0 = λ n. Q n.owner in
       set_step-leaves (λ u. OwnersAre Q u.nodes) t to
       (all_changed P P t.nodes to.path (with_data to.bytes (t.zxid + 1) t.time) all (λ n has. has) (λ n is. all to.path n is))
+
+  pub acl : (t : Tree) (to : SetAcl) → OwnersAre Q t.nodes → Leaves (λ u. OwnersAre Q u.nodes) (acl_step t to)
+  acl t to all =
+      let P : Node → Type 0 = λ n. Q n.owner in
+      acl_step-leaves (λ u. OwnersAre Q u.nodes) t to
+      (all_changed P P t.nodes to.path with_acl all (λ n has. has) (λ n is. all to.path n is))
 
   -- the owners that a part names
   abbrev pub PartNames : Part → Type 0

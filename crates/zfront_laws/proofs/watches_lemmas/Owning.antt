@@ -7,21 +7,21 @@ use Rattle.ztree.specs.Tree.{Tree, Path, Nodes, with_node}
 use Rattle.zcalls.specs.declared.call.Create.{Create as ToCreate}
 use Rattle.zcalls.specs.declared.call.Part.{Part}
 use Rattle.zcalls.specs.declared.call.Update.{Update}
-use Rattle.zcalls.specs.declared.call.Update.TheVariants.{Create, Delete, SetData, Multi, Open, Ping, Close, Tick}
+use Rattle.zcalls.specs.declared.call.Update.TheVariants.{Create, Delete, SetData, SetAcl, Multi, Open, Ping, Close, Tick}
 use Rattle.zcalls.specs.declared.change.ChangeReply.{ChangeReply}
 use Rattle.zcalls.specs.declared.change.ChangeReply.TheVariants.{Created}
 use Rattle.zcalls.specs.declared.refusal.Refusal.{Refusal}
 use Rattle.zcalls.specs.declared.refusal.Refusal.TheVariants.{Exhausted}
 use Rattle.zcalls.specs.declared.reply.Reply.{Reply}
 use Rattle.zcalls.specs.declared.reply.Reply.TheVariants as reply
-use Rattle.zcalls.specs.Part.{create_step, delete_step, set_step, create_refusals, unless_refused, made_path, owner_of, term_of}
+use Rattle.zcalls.specs.Part.{create_step, delete_step, set_step, acl_step, create_refusals, unless_refused, made_path, owner_of, term_of}
 use Rattle.zcalls.specs.Multi.{Run, run}
 use Rattle.zcalls.specs.Step.{step, is_exhausted, update_result, change_result, multi_result}
 use Rattle.zcalls.proofs.Leaving.{Leaves}
 use Rattle.zwatches.specs.changes.Laws.{takes_away}
 use Rattle.zconnections.specs.attachments.Attachments.{AttachmentsView}
 use Rattle.zconnections.specs.Sweeping.{noted, made_by_parts, made_by}
-use Rattle.zfront_laws.proofs.watches_lemmas.Owners.{OwnersAre, PartNames, made, deleted, set, ran}
+use Rattle.zfront_laws.proofs.watches_lemmas.Owners.{OwnersAre, PartNames, made, deleted, set, acl, ran}
 use Rattle.zfront_laws.proofs.watches_lemmas.Marks.{Known, Marked, Keeps, marked, made_keeps, made_marked, parts_keep, parts_marked}
 
 -- the owners that an update names
@@ -78,6 +78,7 @@ result_owned : (m : AttachmentsView) (t : Tree) (u : Update) â†’ takes_away u â‰
 result_owned m t (Create create) stays all names = create_owned m t create all names
 result_owned m t (Delete delete) stays all names = change_owned (Marked m) t (delete_step t delete) all (deleted (Marked m) t delete all)
 result_owned m t (SetData to) stays all names = change_owned (Marked m) t (set_step t to) all (set (Marked m) t to all)
+result_owned m t (SetAcl to) stays all names = change_owned (Marked m) t (acl_step t to) all (acl (Marked m) t to all)
 result_owned m t (Multi parts) stays all names =
     let n = made_by_parts parts m in
     multi_owned m t parts (run t 0 parts) all

@@ -4,6 +4,7 @@ use Rattle.std.specs.Prelude.{◌⊎◌, ℤ, if◌then◌else◌}
 use Rattle.std.specs.FinSet.{contains}
 use Rattle.std.proofs.lemmas.List.{append-nil}
 use Rattle.ztree.specs.Tree.{Tree}
+use Rattle.zops.specs.RestoredLaws.{IsSettled}
 use Rattle.zresponses.specs.Stats.{told}
 use Rattle.zresponses.specs.declared.answer.Answer.{Answer}
 use Rattle.ztree_service.specs.log.Logs.{Log}
@@ -21,8 +22,10 @@ use Rattle.zfront_laws.proofs.watches_lemmas.Owners.{OwnersAre}
 use Rattle.zfront_laws.proofs.watches_lemmas.Scenes.{happens_both}
 use Rattle.zfront_laws.proofs.watches_lemmas.Standing.{Fewer, closed_fewer, sent_watches, sent_attachments}
 
--- the server's base, tables and tree are those of the scene; the watches may know the nodes of an earlier front only
+-- the server's base, tables and tree are those of the scene, which began with a settled tree; the watches may know the nodes of an
+-- earlier front only
 pub record AtIf (since : Option FrontView) (v : FrontView) (s : Scene) : Type 0 where
+  pub settled : IsSettled s.start
   pub base : s.base ≡ v.clock.base
   pub tables : s.tables ≡ v.tables
   pub tree : tree_of s ≡ v.tree
@@ -36,6 +39,7 @@ At v s = AtIf None v s
 pub shuts : (since : Option FrontView) (v : FrontView) (s : Scene) (to : TablesView → TablesView) → AtIf since v s → Fewer s.tables (to s.tables)
     → Keeps s.tables.attachments (to s.tables).attachments → AtIf since (with_tables (to v.tables) v) (record s { tables = to s.tables })
 shuts since v s to there fewer kept = record {
+  settled = there.settled;
   base = there.base;
   tables = ap to there.tables;
   tree = there.tree;
@@ -47,6 +51,7 @@ shuts since v s to there fewer kept = record {
 pub sends : (since : Option FrontView) (v : FrontView) (s : Scene) (c : ℕ) (bytes : List ℕ) → AtIf since v s
     → AtIf since (with_tables (sent c bytes v.tables) v) (record s { tables = sent c bytes s.tables })
 sends since v s c bytes there = record {
+  settled = there.settled;
   base = there.base;
   tables = ap (sent c bytes) there.tables;
   tree = there.tree;
@@ -118,6 +123,7 @@ module _ {Asks : Asking} where
       → Arrives Asks since (with_tables t v) s []
   moves_if since v s t there moved owners =
       once since (with_tables t v) s (Moved t) (after (Moved t) s) (subst (λ old. IsMoved old t) (sym there.tables) moved, refl) refl (record {
+        settled = there.settled;
         base = there.base;
         tables = refl;
         tree = there.tree;

@@ -11,6 +11,7 @@ use Rattle.zjute.specs.declared.request.Asked.TheVariants as asked
 use Rattle.zjute.specs.declared.request.SetWatches.{SetWatches}
 use Rattle.zjute.specs.declared.request.SetWatches2.{SetWatches2}
 use Rattle.zjute.specs.WatchNumbers.{mode_of, type_of}
+use Rattle.zrequests.specs.Terms.{Terms}
 use Rattle.zrequests.specs.declared.fault.Unasked.TheVariants.{Refused}
 use Rattle.zrequests.specs.declared.limits.TheConstants.{MAX_PATHS}
 use Rattle.zrequests.specs.Asking.{Meaning, then_means, each_in, path_in}
@@ -150,15 +151,15 @@ AsksIf (asked.AddWatch add) calls = FirstAsks add.path calls
 AsksIf (asked.RemoveWatches at) calls = FirstAsks at.path calls
 AsksIf other calls = Unit {0}
 
-pub asks_if : (tick session : ℕ) (asks : Asked) (calls : List Call) → calls_in tick session asks ≡ Ok calls → AsksIf asks calls
-asks_if tick session (asked.SetWatches set) =
+pub asks_if : (terms : Terms) (session : ℕ) (asks : Asked) (calls : List Call) → calls_in terms session asks ≡ Ok calls → AsksIf asks calls
+asks_if terms session (asked.SetWatches set) =
     choice (AsksAgain set) (nat_lt MAX_PATHS (length (watched_in set))) (Err (Refused BadArguments)) (each_in watch_in (watched_in set))
     (never (AsksAgain set) (Refused BadArguments))
     (asks_again set)
-asks_if tick session (asked.SetWatches2 all) =
+asks_if terms session (asked.SetWatches2 all) =
     choice (AsksEach all) (nat_lt MAX_PATHS (length (all_watched_in all))) (Err (Refused BadArguments)) (each_in watch_in (all_watched_in all))
     (never (AsksEach all) (Refused BadArguments))
     (asks_each all)
-asks_if tick session (asked.AddWatch add) = first_ask (mode_of add.mode) add.path
-asks_if tick session (asked.RemoveWatches at) = first_ask (type_of at.kind) at.path
-asks_if tick session other = λ calls is. tt
+asks_if terms session (asked.AddWatch add) = first_ask (mode_of add.mode) add.path
+asks_if terms session (asked.RemoveWatches at) = first_ask (type_of at.kind) at.path
+asks_if terms session other = λ calls is. tt

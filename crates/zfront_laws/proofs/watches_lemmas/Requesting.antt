@@ -39,13 +39,15 @@ use Rattle.zresponses.specs.effects.Watching.{granted_all, first_fault}
 use Rattle.zresponses.specs.effects.Wishes.{wishes}
 use Rattle.zresponses.specs.Stats.{told}
 use Rattle.zfront.specs.Requests.{request_in}
-use Rattle.zfront.specs.Front.{FrontView, with_tables, asked, replies_to, may_end, takes_nodes, tidied_if, watched}
+use Rattle.zfront.specs.Front.{FrontView, with_tables, asked, ending, replies_to, may_end, takes_nodes, tidied_if, watched}
 use Rattle.zfront.specs.Requests.{touched_by, with_answer, Makes, Tells, Acts, ActsOr, Requests, Serves}
 use Rattle.zfront.specs.Walks.{walked}
 use Rattle.zfront_laws.specs.Logs.{done_by, meant, request_calls}
 use Rattle.zfront_laws.proofs.Seated.{Has}
 use Rattle.zfront_laws.specs.watches.Laws.{IsRequest}
 use Rattle.zfront_laws.specs.watches.Watching.{Scene, Asking, HasReportedAll, IsClose}
+use Rattle.zfront_laws.proofs.Ending.{own_calls_end}
+use Rattle.zfront_laws.proofs.watches_lemmas.Doomed.{close_covers}
 use Rattle.zfront_laws.proofs.watches_lemmas.Granting.{granted_answers, no_wish_grants}
 use Rattle.zfront_laws.proofs.watches_lemmas.Holding.{absorbing}
 use Rattle.zfront_laws.proofs.watches_lemmas.Owning.{UpdateNames}
@@ -61,6 +63,7 @@ use Rattle.zfront_laws.proofs.watches_lemmas.Standing.{sent_attachments}
 use Rattle.zfront_laws.proofs.watches_lemmas.Taking.{close_takes}
 use Rattle.zfront_laws.proofs.watches_lemmas.Tidying.{Gone, Lost, tidies}
 use Rattle.zfront_laws.proofs.watches_lemmas.Updating.{absorbs, behind_calls, close_does, next, nothing_taken, taken}
+use Rattle.zfront_laws.proofs.watches_lemmas.Watched.{Covers}
 use Rattle.zfront_laws.proofs.watches_lemmas.Wished.{wishes_grant}
 use Rattle.zfront_laws.proofs.watches_lemmas.Wishing.{AreOf, AreQueries, served_are_of}
 
@@ -89,7 +92,7 @@ module _ (c : ℕ) (asks : Request) where
       → AreQueries calls → At old s → Makes calls c asks old new → Reaches Asks new s (done_by calls old)
   makes_queries {Asks} calls old new s mine named all there is =
       becomes new (with_answer calls c asks old) s (done_by calls old)
-      (is ∙ ap (λ b. tidied_if b reported (watched old) (with_answer calls c asks old)) (never_end calls all))
+      (is ∙ ap (λ b. tidied_if b reported (ending calls old.tree) (watched calls old) (with_answer calls c asks old)) (never_end calls all))
       (behind_calls calls old s there (with_answer calls c asks old)
       (subst (λ t. Reaches Asks (with_tables (granted_and_answered old.clock (now_of v.tree) c asks calls reported t) v) (next calls old s there) [])
       (sym (absorbed_queries calls reported old.tables all)) granted))
@@ -152,21 +155,24 @@ module _ (c : ℕ) (asks : Request) where
           | false ↦ subst (Keeps t.attachments) (sym (sent_attachments c (answer_frame (told v.clock.base v.tree.zxid) asks.xid answer) t)) (unchanged t.attachments)
         ]
 
-    ends : {Asks : Asking} → AtIf (Some old) v (next calls old s there) → Lost old v (takes_nodes reported)
-        → (HasReportedAll (next calls old s there) c ⊎ IsClose (next calls old s there) c)
-        → new ≡ tidied_if true (reported ∷ []) (watched old) answered → Reaches Asks new s (done_by calls old)
-    ends here lost may is =
-        becomes new (tidied_if true (reported ∷ []) (watched old) answered) s (done_by calls old) is
-        (behind_calls calls old s there (tidied_if true (reported ∷ []) (watched old) answered)
-        (behind (Some old) None answered (tidied_if true (reported ∷ []) (watched old) answered) (next calls old s there) [] []
-        (replies (Some old) v (next calls old s there) c asks.xid answer here may)
-        (λ last this. tidies (reported ∷ []) old answered last this (still_lost lost))))
-      where
-        why : (takes_nodes reported ≡ true) ⊎ Gone v → (list_any takes_nodes (reported ∷ []) ≡ true) ⊎ Gone answered
-        why (inl some) = inl (ap (λ b. b || false) some)
-        why (inr (id, gone, made)) = inr (id, gone, (replied_keeps old.tables).marks id made)
+    abbrev ids : List ℕ
+    ids = ending calls old.tree
 
-        still_lost : Lost old v (takes_nodes reported) → Lost old answered (list_any takes_nodes (reported ∷ []))
+    ends : {Asks : Asking} → AtIf (Some old) v (next calls old s there) → Lost old ids v (takes_nodes reported) → Covers old v.tree (watched calls old)
+        → (HasReportedAll (next calls old s there) c ⊎ IsClose (next calls old s there) c)
+        → new ≡ tidied_if true (reported ∷ []) ids (watched calls old) answered → Reaches Asks new s (done_by calls old)
+    ends here lost covers may is =
+        becomes new (tidied_if true (reported ∷ []) ids (watched calls old) answered) s (done_by calls old) is
+        (behind_calls calls old s there (tidied_if true (reported ∷ []) ids (watched calls old) answered)
+        (behind (Some old) None answered (tidied_if true (reported ∷ []) ids (watched calls old) answered) (next calls old s there) [] []
+        (replies (Some old) v (next calls old s there) c asks.xid answer here may)
+        (λ last this. tidies (reported ∷ []) ids old answered (watched calls old) covers last this (still_lost lost))))
+      where
+        why : (takes_nodes reported ≡ true) ⊎ Gone ids v → (list_any takes_nodes (reported ∷ []) ≡ true) ⊎ Gone ids answered
+        why (inl some) = inl (ap (λ b. b || false) some)
+        why (inr (id, gone, listed, made)) = inr (id, gone, listed, (replied_keeps old.tables).marks id made)
+
+        still_lost : Lost old ids v (takes_nodes reported) → Lost old ids answered (list_any takes_nodes (reported ∷ []))
         still_lost (inl same) = inl same
         still_lost (inr (loses, reason)) = inr (loses, why reason)
 
@@ -188,18 +194,26 @@ module _ (c : ℕ) (asks : Request) where
       done : FrontView
       done = answered u old new s no_watch there
 
-      tidied : new ≡ tidied_if true (reported ∷ []) (watched old) done
-      tidied = is ∙ ap (tidied_if true (reported ∷ []) (watched old)) (no_wishes u old new s no_watch there)
+      tidied : new ≡ tidied_if true (reported ∷ []) (ending (Update u ∷ []) old.tree) (watched (Update u ∷ []) old) done
+      tidied = is ∙ ap (tidied_if true (reported ∷ []) (ending (Update u ∷ []) old.tree) (watched (Update u ∷ []) old)) (no_wishes u old new s no_watch there)
 
-      took : AtIf (Some old) (asked (Update u ∷ []) old) then_scene × Lost old (asked (Update u ∷ []) old) (takes_nodes reported)
-      took = taken (Update u ∷ []) old s there (takes_nodes reported) (close_takes old.tree session (subst IsLawful there.tree (is_lawful s)))
+      lawful : IsLawful old.tree
+      lawful = subst IsLawful there.tree (is_lawful s there.settled)
+
+      covers : Covers old (tree_after old.tree (Update u ∷ [])) (watched (Update u ∷ []) old)
+      covers = close_covers session old lawful
+
+      took : AtIf (Some old) (asked (Update u ∷ []) old) then_scene × Lost old (ending (Update u ∷ []) old.tree) (asked (Update u ∷ []) old) (takes_nodes reported)
+      took =
+          taken (Update u ∷ []) old s there (takes_nodes reported) (own_calls_end session (Update u ∷ []) (refl, tt) old.tree)
+          (close_takes old.tree session lawful)
 
       by : ((step old.tree 0 u).0 ≡ old.tree) ⊎ ((step old.tree 0 u).1 ≡ reply.Closed) → Reaches Asks new s (done_by (Update u ∷ []) old)
       by (inl same) =
           let here = nothing_taken (Update u ∷ []) old s there (ap (λ (t : Tree). t.nodes) same) in
-          ends u old new s no_watch there took.0 took.1 (inl (all_reported (asked (Update u ∷ []) old) then_scene c here)) tidied
+          ends u old new s no_watch there took.0 took.1 covers (inl (all_reported (asked (Update u ∷ []) old) then_scene c here)) tidied
       by (inr ended) =
-          ends u old new s no_watch there took.0 took.1
+          ends u old new s no_watch there took.0 took.1 covers
           (inr (
             s.log,
             session,
@@ -217,6 +231,8 @@ module _ (c : ℕ) (asks : Request) where
       updates (act.Delete delete) old new s no_watch there refl names is
   makes_update session (act.SetData set) for no_watch old new s speaks names there is =
       updates (act.SetData set) old new s no_watch there refl names is
+  makes_update session (act.SetAcl set) for no_watch old new s speaks names there is =
+      updates (act.SetAcl set) old new s no_watch there refl names is
   makes_update session (act.Multi parts) for no_watch old new s speaks names there is =
       updates (act.Multi parts) old new s no_watch there refl names is
   makes_update session (act.Open ticks) for no_watch old new s speaks names there is = absurd for
@@ -250,6 +266,7 @@ update_names m session has (act.Create create) for = lifetime_names m session ha
 update_names m session has (act.Multi parts) for = parts_names m session has parts for
 update_names m session has (act.Delete delete) for = tt
 update_names m session has (act.SetData set) for = tt
+update_names m session has (act.SetAcl set) for = tt
 update_names m session has (act.Open ticks) for = tt
 update_names m session has (act.Ping id) for = tt
 update_names m session has (act.Close id) for = tt
@@ -304,9 +321,9 @@ requests (Ok asks) session c old new s mine speaks sits there has =
     behind None None (touched_by session old) new s [] (done_by (request_calls (Ok asks) session old) old)
     (moves None old s t there (attachments_move old.tables (with_changed touched old.tables.attachments session)) kept)
     (λ next here.
-    acts_or c session asks (mine asks refl) (walked session asks.asked old.tree) (calls_in old.clock.tick session asks.asked)
-    (walks_call_nothing old.clock.tick session asks.asked old.tree)
-    (λ calls is. (asks_if old.clock.tick session asks.asked calls is, sorts old.clock.tick session asks.asked calls is, calls_are_for_their_session old.clock.tick session asks.asked calls is))
+    acts_or c session asks (mine asks refl) (walked session asks.asked old.tree) (calls_in old.clock.terms session asks.asked)
+    (walks_call_nothing old.clock.terms session asks.asked old.tree)
+    (λ calls is. (asks_if old.clock.terms session asks.asked calls is, sorts old.clock.terms session asks.asked calls is, calls_are_for_their_session old.clock.terms session asks.asked calls is))
     (touched_by session old) new next speaks
     (subst (λ (u : TablesView). Has u.attachments session) (sym here.tables) (kept.has session sits)) here has)
 

@@ -7,9 +7,10 @@ use Rattle.std.specs.Option.{option_map_or}
 use Rattle.std.proofs.lemmas.List.{append-nil}
 use Rattle.ztree.specs.Lawful.{IsOwner}
 use Rattle.ztree.specs.Tree.{Tree}
+use Rattle.zops.specs.RestoredLaws.{IsSettled}
 use Rattle.zprotocol.specs.world.FromTree.{CanStart}
 use Rattle.zresponses.specs.declared.clock.Clock.{Clock}
-use Rattle.ztree_service.specs.log.Logs.{Log, Leaves}
+use Rattle.ztree_service.specs.log.Logs.{Log, Leads}
 use Rattle.zconnections.specs.buffers.Inputs.InputView.{Opened, Came, Ended, Tick}
 use Rattle.zconnections.specs.buffers.Streams as streams
 use Rattle.zconnections.specs.buffers.Streams.{phase_of}
@@ -85,7 +86,7 @@ brings Took old new s few fine there is =
       s,
       refl,
       sym (append-nil s.log),
-      record { base = there.base; tables = there.tables; tree = there.tree; holds = there.holds },
+      record { settled = there.settled; base = there.base; tables = there.tables; tree = there.tree; holds = there.holds },
     )
 
 brings_all : (steps : List Step) (old new : FrontView) (s : Scene) → KeepsFew old → Fine old → At old s → (runs : Runs steps old new)
@@ -109,18 +110,18 @@ no_watches : {P : Type 0} (t : TablesView) (w : Watch) → IsBare t → contains
 no_watches t w bare is =
     absurd (cc (sym (sets.contains-empty watch_cmp w) ∙ sym (ap (λ (table : Watches). contains table w) bare.watches) ∙ is))
 
-module _ (limits : WatchLimits) (t : Tree) (secret : List ℕ) (times : Clock) (is_kept : Bool) (before : Log) (left : Leaves before t) where
+module _ (limits : WatchLimits) (t : Tree) (secret : List ℕ) (times : Clock) (is_kept : Bool) (start : Tree) (before : Log) (settled : IsSettled start) (left : Leads start before t) where
   abbrev v : FrontView
   v = beginning limits t secret times is_kept
 
   abbrev opens : Scene
-  opens = opening_scene times.base before v.tables
+  opens = opening_scene times.base start before v.tables
 
   bare : IsBare v.tables
   bare = is_bare limits t secret times is_kept
 
   can : CanStart t
-  can = subst CanStart left.1 (can_start opens)
+  can = subst CanStart left.1 (can_start opens settled)
 
   -- each owner of a node is a session of the tree, and each of these has a attachment that is marked
   owners : OwnersAre (Marked v.tables.attachments) t.nodes
@@ -135,6 +136,7 @@ module _ (limits : WatchLimits) (t : Tree) (secret : List ℕ) (times : Clock) (
 
   begins : At v opens
   begins = record {
+    settled = settled;
     base = refl;
     tables = refl;
     tree = left.1;
@@ -147,14 +149,14 @@ module _ (limits : WatchLimits) (t : Tree) (secret : List ℕ) (times : Clock) (
   }
 
 pub every_watch_is_reported : EveryWatchIsReported
-every_watch_is_reported limits t secret times is_kept before steps v left runs =
+every_watch_is_reported limits t secret times is_kept start before steps v settled left runs =
     let first = beginning limits t secret times is_kept in
-    let done = brings_all steps first v (opening_scene times.base before first.tables) (is_few limits t secret times is_kept)
-    (is_fine limits t secret times is_kept (can limits t secret times is_kept before left)) (begins limits t secret times is_kept before left) runs in (
+    let done = brings_all steps first v (opening_scene times.base start before first.tables) (is_few limits t secret times is_kept)
+    (is_fine limits t secret times is_kept (can limits t secret times is_kept start before settled left)) (begins limits t secret times is_kept start before settled left) runs in (
       done.0,
       done.1,
       done.3.tables,
       done.2,
-      subst (λ log. Leaves log v.tree) (sym done.2) (every_front_is_one_tree limits t secret times is_kept before steps v left runs),
+      subst (λ log. Leads start log v.tree) (sym done.2) (every_front_is_one_tree limits t secret times is_kept start before steps v left runs),
       done.3.holds.seen,
     )

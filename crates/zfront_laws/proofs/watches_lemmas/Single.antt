@@ -189,6 +189,7 @@ kind_of t (act.SetData set) lawful =
     let u = act.SetData set in
     inr (either t u (is_exhausted t u) (t, reply.Refused Exhausted) (update_result t 0 u) (λ after. nothing t.nodes t.nodes)
     (set_reported t set (set_step t set) (set_did t set)))
+kind_of t (act.SetAcl set) lawful = inr (λ after. nothing t.nodes (step t 0 (act.SetAcl set)).0.nodes)
 kind_of t (act.Multi parts) lawful = inl (parts, refl)
 kind_of t (act.Open ticks) lawful = inr (λ after. nothing t.nodes (step t 0 (act.Open ticks)).0.nodes)
 kind_of t (act.Ping session) lawful = inr (λ after. nothing t.nodes (step t 0 (act.Ping session)).0.nodes)

@@ -1,8 +1,7 @@
 -- What a request asks of the service: queries, or one update that sets no watch.
-use Rattle.std.proofs.Common.{◌≡◌, ℕ, List, [], ◌∷◌, Option, Ok, Err, refl, inl, inr, if◌then◌else◌}
+use Rattle.std.proofs.Common.{◌≡◌, ℕ, List, [], ◌∷◌, Option, Ok, Err, refl, inl, inr}
 use Rattle.std.specs.Prelude.{◌⊎◌, nat_lt, length, Some, None}
 use Rattle.ztree.specs.Tree.{Path}
-use Rattle.zcalls.specs.declared.limits.TheConstants.{MAX_PARTS}
 use Rattle.zcalls.specs.declared.call.Part.TheVariants as part
 use Rattle.zcalls.specs.declared.call.Update.{Update as Act}
 use Rattle.zcalls.specs.declared.call.Update.TheVariants as act
@@ -11,7 +10,7 @@ use Rattle.zcalls.specs.declared.call.Query.TheVariants.{GetData, Exists, GetChi
 use Rattle.zcalls.specs.declared.call.Call.{Call}
 use Rattle.zcalls.specs.declared.call.Call.TheVariants.{Update, Query}
 use Rattle.zcalls.specs.declared.reply.Reply.{Reply}
-use Rattle.zjute.specs.declared.code.Code.TheVariants.{BadArguments, InvalidAcl, MarshallingError, AuthFailed}
+use Rattle.zjute.specs.declared.code.Code.TheVariants.{BadArguments, MarshallingError, AuthFailed}
 use Rattle.zjute.specs.declared.request.Asked.{Asked}
 use Rattle.zjute.specs.declared.request.Asked.TheVariants as asked
 use Rattle.zjute.specs.WatchNumbers.{mode_of, type_of}
@@ -21,8 +20,9 @@ use Rattle.zjute.specs.declared.part.LookPart.TheVariants as of_look
 use Rattle.zrequests.specs.declared.fault.Unasked.{Unasked}
 use Rattle.zrequests.specs.declared.fault.Unasked.TheVariants.{Refused}
 use Rattle.zrequests.specs.declared.limits.TheConstants.{MAX_PATHS}
-use Rattle.zrequests.specs.Asking.{Meaning, each_in, has_open_acl, path_in}
-use Rattle.zrequests.specs.Requests.{create_in, timed_create_in, delete_in, check_in, set_in, parts_in, one, one_of_parts}
+use Rattle.zrequests.specs.Terms.{Terms}
+use Rattle.zrequests.specs.Asking.{Meaning, each_in, path_in}
+use Rattle.zrequests.specs.Requests.{create_in, timed_create_in, delete_in, check_in, set_in, set_acl_in, parts_in, one, one_of_parts}
 use Rattle.zrequests.specs.Requests.{multi_in, query_in, look_in, looks_in, watch_in, watched_in, all_watched_in, numbered_in, look_alone, calls_in}
 use Rattle.zrequests.proofs.Meanings.{meant, unmeant, behind, choice, done, each_for, never, through}
 use Rattle.zresponses.specs.effects.Wishes.{wishes}
@@ -65,81 +65,79 @@ module _ (asks : Asked) where
       → one (Update u) ≡ Ok calls → Sorts asks calls
   update u no_watch = done (Sorts asks) (Update u ∷ []) (inr (u, refl, no_watch))
 
-multi_sorts : (tick session : ℕ) (asks : Asked) → ((u : Act) (replies : List Reply) → wishes asks (Update u ∷ []) replies ≡ [])
-    → (parts : List AskedPart) (calls : List Call) → multi_in tick session parts ≡ Ok calls → Sorts asks calls
-multi_sorts tick session asks no_watch [] = none asks
-multi_sorts tick session asks no_watch (first ∷ parts) =
-    let all = act.Multi (parts_in tick session (first ∷ parts)) in
-    choice (Sorts asks) (nat_lt MAX_PARTS (length (first ∷ parts))) (Err (Refused BadArguments)) (one (Update all))
+multi_sorts : (terms : Terms) (session : ℕ) (asks : Asked) → ((u : Act) (replies : List Reply) → wishes asks (Update u ∷ []) replies ≡ [])
+    → (parts : List AskedPart) (calls : List Call) → multi_in terms session parts ≡ Ok calls → Sorts asks calls
+multi_sorts terms session asks no_watch [] = none asks
+multi_sorts terms session asks no_watch (first ∷ parts) =
+    let all = act.Multi (parts_in terms session (first ∷ parts)) in
+    choice (Sorts asks) (nat_lt terms.parts (length (first ∷ parts))) (Err (Refused BadArguments)) (one (Update all))
     (refused asks (Refused BadArguments)) (update asks all (no_watch all))
 
-pub sorts : (tick session : ℕ) (asks : Asked) (calls : List Call) → calls_in tick session asks ≡ Ok calls → Sorts asks calls
-sorts tick session (asked.Create create) =
+pub sorts : (terms : Terms) (session : ℕ) (asks : Asked) (calls : List Call) → calls_in terms session asks ≡ Ok calls → Sorts asks calls
+sorts terms session (asked.Create create) =
     let asks = asked.Create create in
-    behind (Sorts asks) (create_in session create) (λ create. one (Update (act.Create create)))
+    behind (Sorts asks) (create_in terms session create) (λ create. one (Update (act.Create create)))
     (λ create. update asks (act.Create create) (λ replies. refl))
-sorts tick session (asked.Create2 create) =
+sorts terms session (asked.Create2 create) =
     let asks = asked.Create2 create in
-    behind (Sorts asks) (create_in session create) (λ create. one (Update (act.Create create)))
+    behind (Sorts asks) (create_in terms session create) (λ create. one (Update (act.Create create)))
     (λ create. update asks (act.Create create) (λ replies. refl))
-sorts tick session (asked.CreateContainer create) =
+sorts terms session (asked.CreateContainer create) =
     let asks = asked.CreateContainer create in
-    behind (Sorts asks) (create_in session create) (λ create. one (Update (act.Create create)))
+    behind (Sorts asks) (create_in terms session create) (λ create. one (Update (act.Create create)))
     (λ create. update asks (act.Create create) (λ replies. refl))
-sorts tick session (asked.CreateTtl timed) =
+sorts terms session (asked.CreateTtl timed) =
     let asks = asked.CreateTtl timed in
-    behind (Sorts asks) (timed_create_in tick timed) (λ create. one (Update (act.Create create)))
+    behind (Sorts asks) (timed_create_in terms timed) (λ create. one (Update (act.Create create)))
     (λ create. update asks (act.Create create) (λ replies. refl))
-sorts tick session (asked.Delete at) =
+sorts terms session (asked.Delete at) =
     let asks = asked.Delete at in
     behind (Sorts asks) (delete_in at) (λ delete. one (Update (act.Delete delete))) (λ delete. update asks (act.Delete delete) (λ replies. refl))
-sorts tick session (asked.SetData set) =
+sorts terms session (asked.SetData set) =
     let asks = asked.SetData set in
-    behind (Sorts asks) (set_in set) (λ set. one (Update (act.SetData set))) (λ set. update asks (act.SetData set) (λ replies. refl))
-sorts tick session (asked.Check at) =
+    behind (Sorts asks) (set_in terms set) (λ set. one (Update (act.SetData set))) (λ set. update asks (act.SetData set) (λ replies. refl))
+sorts terms session (asked.Check at) =
     let asks = asked.Check at in
     behind (Sorts asks) (check_in at) (λ check. one_of_parts (part.Check check ∷ []))
     (λ check. update asks (act.Multi (part.Check check ∷ [])) (λ replies. refl))
-sorts tick session (asked.Multi parts) = multi_sorts tick session (asked.Multi parts) (λ u replies. refl) parts
-sorts tick session (asked.Exists look) = alone (asked.Exists look) Exists look.path
-sorts tick session (asked.GetData look) = alone (asked.GetData look) GetData look.path
-sorts tick session (asked.GetChildren look) = alone (asked.GetChildren look) GetChildren look.path
-sorts tick session (asked.GetChildren2 look) =
+sorts terms session (asked.Multi parts) = multi_sorts terms session (asked.Multi parts) (λ u replies. refl) parts
+sorts terms session (asked.Exists look) = alone (asked.Exists look) Exists look.path
+sorts terms session (asked.GetData look) = alone (asked.GetData look) GetData look.path
+sorts terms session (asked.GetChildren look) = alone (asked.GetChildren look) GetChildren look.path
+sorts terms session (asked.GetChildren2 look) =
     let asks = asked.GetChildren2 look in
     behind (Sorts asks) (path_in look.path) (λ path. Ok (Query (GetChildren path) ∷ Query (Exists path) ∷ []))
     (λ path. done (Sorts asks) (Query (GetChildren path) ∷ Query (Exists path) ∷ []) (inl (tt, (tt, tt))))
-sorts tick session (asked.GetAcl path) = alone (asked.GetAcl path) Exists path
-sorts tick session (asked.MultiRead looks) =
-    queries (asked.MultiRead looks) (looks_in looks)
-    (choice AreQueries (nat_lt MAX_PARTS (length looks)) (Err (Refused BadArguments)) (each_in look_in looks)
+sorts terms session (asked.GetAcl path) = alone (asked.GetAcl path) Exists path
+sorts terms session (asked.MultiRead looks) =
+    queries (asked.MultiRead looks) (looks_in terms looks)
+    (choice AreQueries (nat_lt terms.parts (length looks)) (Err (Refused BadArguments)) (each_in look_in looks)
     (never AreQueries (Refused BadArguments))
     (each_for IsQuery look_in look_sorts looks))
-sorts tick session (asked.SetWatches set) =
+sorts terms session (asked.SetWatches set) =
     queries (asked.SetWatches set) _
     (choice AreQueries (nat_lt MAX_PATHS (length (watched_in set))) (Err (Refused BadArguments)) (each_in watch_in (watched_in set))
     (never AreQueries (Refused BadArguments))
     (each_for IsQuery watch_in (λ path. query_sorts Exists (Some path)) (watched_in set)))
-sorts tick session (asked.Sync None) = refused (asked.Sync None) (Refused BadArguments)
-sorts tick session (asked.Sync (Some path)) = none (asked.Sync (Some path))
-sorts tick session (asked.Auth auth) =
+sorts terms session (asked.Sync None) = refused (asked.Sync None) (Refused BadArguments)
+sorts terms session (asked.Sync (Some path)) = none (asked.Sync (Some path))
+sorts terms session (asked.Auth auth) =
     choice (Sorts (asked.Auth auth)) _ (Ok []) (Err (Refused AuthFailed)) (none (asked.Auth auth)) (refused (asked.Auth auth) (Refused AuthFailed))
-sorts tick session asked.Ping = none asked.Ping
-sorts tick session asked.CloseSession = update asked.CloseSession (act.Close session) (λ replies. refl)
-sorts tick session (asked.SetAcl set) =
+sorts terms session asked.Ping = none asked.Ping
+sorts terms session asked.CloseSession = update asked.CloseSession (act.Close session) (λ replies. refl)
+sorts terms session (asked.SetAcl set) =
     let asks = asked.SetAcl set in
-    behind (Sorts asks) (path_in set.path) (λ path. if has_open_acl set.acls then one (Query (Exists path)) else Err (Refused InvalidAcl))
-    (λ path. choice (Sorts asks) (has_open_acl set.acls) (one (Query (Exists path))) (Err (Refused InvalidAcl))
-    (done (Sorts asks) (Query (Exists path) ∷ []) (inl (tt, tt))) (refused asks (Refused InvalidAcl)))
-sorts tick session (asked.Sasl token) = none (asked.Sasl token)
-sorts tick session (asked.GetEphemerals front) = none (asked.GetEphemerals front)
-sorts tick session (asked.GetAllChildrenNumber top) = none (asked.GetAllChildrenNumber top)
-sorts tick session asked.WhoAmI = none asked.WhoAmI
-sorts tick session (asked.CheckWatches at) = numbered (asked.CheckWatches at) (type_of at.kind) at.path
-sorts tick session (asked.RemoveWatches at) = numbered (asked.RemoveWatches at) (type_of at.kind) at.path
-sorts tick session (asked.SetWatches2 set) =
+    behind (Sorts asks) (set_acl_in set) (λ set. one (Update (act.SetAcl set))) (λ set. update asks (act.SetAcl set) (λ replies. refl))
+sorts terms session (asked.Sasl token) = none (asked.Sasl token)
+sorts terms session (asked.GetEphemerals front) = none (asked.GetEphemerals front)
+sorts terms session (asked.GetAllChildrenNumber top) = none (asked.GetAllChildrenNumber top)
+sorts terms session asked.WhoAmI = none asked.WhoAmI
+sorts terms session (asked.CheckWatches at) = numbered (asked.CheckWatches at) (type_of at.kind) at.path
+sorts terms session (asked.RemoveWatches at) = numbered (asked.RemoveWatches at) (type_of at.kind) at.path
+sorts terms session (asked.SetWatches2 set) =
     queries (asked.SetWatches2 set) _
     (choice AreQueries (nat_lt MAX_PATHS (length (all_watched_in set))) (Err (Refused BadArguments)) (each_in watch_in (all_watched_in set))
     (never AreQueries (Refused BadArguments))
     (each_for IsQuery watch_in (λ path. query_sorts Exists (Some path)) (all_watched_in set)))
-sorts tick session (asked.AddWatch add) = numbered (asked.AddWatch add) (mode_of add.mode) add.path
-sorts tick session (asked.Other kind bytes) = refused (asked.Other kind bytes) _
+sorts terms session (asked.AddWatch add) = numbered (asked.AddWatch add) (mode_of add.mode) add.path
+sorts terms session (asked.Other kind bytes) = refused (asked.Other kind bytes) _

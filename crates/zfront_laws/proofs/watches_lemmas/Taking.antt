@@ -106,12 +106,12 @@ less_a_child zxid nodes at path = by (finite.get nodes at) refl
     by None is = loses_nothing zxid nodes path
     by (Some n) is = near n is (same_or_other paths_total same_path path at)
 
-dropped : (t : Tree) (at path : Path) → Loses (t.zxid + 1) t.nodes (without_node t at).nodes path
+pub dropped : (t : Tree) (at path : Path) → Loses (t.zxid + 1) t.nodes (without_node t at).nodes path
 dropped t at path =
     both (t.zxid + 1) t.nodes (finite.remove t.nodes at) (without_node t at).nodes path (removed (t.zxid + 1) t.nodes at path)
     (less_a_child (t.zxid + 1) (finite.remove t.nodes at) (parent_of at) path)
 
-all_dropped : (paths : List Path) (t : Tree) (path : Path) → Loses (t.zxid + 1) t.nodes (without_nodes t paths).nodes path
+pub all_dropped : (paths : List Path) (t : Tree) (path : Path) → Loses (t.zxid + 1) t.nodes (without_nodes t paths).nodes path
 all_dropped [] t path = loses_nothing (t.zxid + 1) t.nodes path
 all_dropped (at ∷ paths) t path =
     both (t.zxid + 1) t.nodes (without_node t at).nodes (without_nodes t (at ∷ paths)).nodes path (dropped t at path)

@@ -6,6 +6,7 @@ use Rattle.std.specs.Prelude.{◌⊎◌, ◌||◌, is_some, map}
 use Rattle.std.specs.List.{AllByRecursion, list_any}
 use Rattle.std.specs.FinMap as finite
 use Rattle.std.specs.Option.{option_map, option_map_or}
+use Rattle.std.specs.Ordering.{eq_by_cmp, nat_cmp}
 use Rattle.std.proofs.lemmas.List.{append-nil}
 use Rattle.ztree.specs.declared.node.Node.{Node}
 use Rattle.ztree.specs.Lawful.{IsLawful, IsOwner}
@@ -20,7 +21,7 @@ use Rattle.zconnections.specs.Tables.{TablesView, closed, connection_of, moved}
 use Rattle.zconnections.specs.Reporting.{reported_all}
 use Rattle.zconnections.specs.Sweeping.{forgotten, is_gone, made_one, some_made_one, swept_all}
 use Rattle.zconnections.specs.Sweeping as tables
-use Rattle.zfront.specs.Front.{FrontView, with_tables, gone_from, swept, takes_nodes, took_unnamed, watched, looked, looked_if, tidied_if}
+use Rattle.zfront.specs.Front.{FrontView, with_tables, gone_from, swept, takes_nodes, took_unnamed, looked, looked_if, tidied_if}
 use Rattle.zfront_laws.specs.watches.Watching.{Scene, Asking, Fired, tree_of, May, IsSameAt}
 use Rattle.zfront_laws.proofs.watches_lemmas.Changing.{seen_same}
 use Rattle.zfront_laws.proofs.watches_lemmas.Holding.{knowing, none_lost, told_holds}
@@ -34,7 +35,7 @@ use Rattle.zfront_laws.proofs.watches_lemmas.Standing.{Fewer, In}
 use Rattle.zfront_laws.proofs.watches_lemmas.Taking.{Loses, loses_nothing}
 use Rattle.zfront_laws.proofs.watches_lemmas.Telling.{AreApart, IsNowhere, told_all_leaves, untold_nowhere}
 use Rattle.zfront_laws.proofs.watches_lemmas.Told.{look_told}
-use Rattle.zfront_laws.proofs.watches_lemmas.Watched.{watched_once, watched_there}
+use Rattle.zfront_laws.proofs.watches_lemmas.Watched.{Covers}
 
 -- what is read of a node is there where it is
 there_read : {X : Type 0} (f : Node → X) (o : Option Node) → is_some (option_map f o) ≡ is_some o
@@ -43,17 +44,20 @@ there_read f (Some n) = refl
 
 -- ---- sessions that ended are swept
 
--- a session that is gone made a node
-abbrev pub Gone : FrontView → Type 0
-Gone v = (id : ℕ) × (finite.get v.tree.sessions id ≡ None) × (made_one v.tables.attachments id ≡ true)
+-- one of these sessions is gone, and made a node
+abbrev pub Gone : List ℕ → FrontView → Type 0
+Gone ids v = (id : ℕ) × (finite.get v.tree.sessions id ≡ None) × (list_any (eq_by_cmp nat_cmp id) ids ≡ true)
+    × (made_one v.tables.attachments id ≡ true)
 
 -- why a look gets due
-becomes_due : (reported : List Reply) (v : FrontView) → (list_any takes_nodes reported ≡ true) ⊎ Gone v → took_unnamed reported v ≡ true
-becomes_due reported v (inl some) = ap (λ b. b || some_made_one v.tables.attachments (gone_from v)) some
-becomes_due reported v (inr (id, none, made)) =
-    ap (λ b. list_any takes_nodes reported || b) (gone_made v.tree.sessions v.tables.attachments id none made) ∙ or-true (list_any takes_nodes reported)
+becomes_due : (reported : List Reply) (ids : List ℕ) (v : FrontView) → (list_any takes_nodes reported ≡ true) ⊎ Gone ids v
+    → took_unnamed reported ids v ≡ true
+becomes_due reported ids v (inl some) = ap (λ b. b || some_made_one v.tables.attachments (gone_from ids v)) some
+becomes_due reported ids v (inr (id, none, listed, made)) =
+    ap (λ b. list_any takes_nodes reported || b) (gone_made v.tree.sessions ids v.tables.attachments id none listed made)
+    ∙ or-true (list_any takes_nodes reported)
 
-owned_there : (m : Sessions) (id : ℕ) → IsOwner m id → (id ≡ 0) ⊎ (finite.contains_key m id ≡ true)
+pub owned_there : (m : Sessions) (id : ℕ) → IsOwner m id → (id ≡ 0) ⊎ (finite.contains_key m id ≡ true)
 owned_there m id (inl nobody) = inl nobody
 owned_there m id (inr there) = inr there
 
@@ -65,7 +69,7 @@ forgets since id v s gone there =
     (λ all path n found. mark n.owner (owned_there v.tree.sessions n.owner (lawful.owners path n found)) (all path n found))
   where
     lawful : IsLawful v.tree
-    lawful = subst IsLawful there.tree (is_lawful s)
+    lawful = subst IsLawful there.tree (is_lawful s there.settled)
 
     mark : (owner : ℕ) → (owner ≡ 0) ⊎ (finite.contains_key v.tree.sessions owner ≡ true) → Marked v.tables.attachments owner
         → Marked (finite.remove v.tables.attachments id) owner
@@ -94,12 +98,9 @@ sweeps since (id ∷ ids) v s all there =
 
 -- ---- a look
 
-module _ (old v : FrontView) (s : Scene) (loses : (path : Path) → Loses v.tree.zxid old.tree.nodes v.tree.nodes path) (there : AtIf (Some old) v s) where
+module _ (old v : FrontView) (paths : List Path) (covers : Covers old v.tree paths) (s : Scene) (loses : (path : Path) → Loses v.tree.zxid old.tree.nodes v.tree.nodes path) (there : AtIf (Some old) v s) where
   abbrev t : Tree
   t = tree_of s
-
-  abbrev paths : List Path
-  paths = watched old
 
   abbrev es : List Event
   es = seen_now t paths
@@ -140,8 +141,8 @@ module _ (old v : FrontView) (s : Scene) (loses : (path : Path) → Loses v.tree
           inl (
             inr (deleted, none),
             λ w stands fired. inl (
-                changed e w first (fewer w stands) fired (watched_there old e.path cause.1) none
-                (apart (seen_apart t paths (watched_once old)))),
+                changed e w first (fewer w stands) fired (covers.there e.path cause.1) none
+                (apart (seen_apart t paths covers.once))),
           )
       by (inr lost) = inr lost
 
@@ -152,48 +153,50 @@ module _ (old v : FrontView) (s : Scene) (loses : (path : Path) → Loses v.tree
     happens = fired_happens Asks es s (may Asks);
     log = sym (append-nil s.log);
     there = record {
+      settled = there.settled;
       base = there.base;
       tables = ap (λ (t : Tree). reported_all (seen_now t paths) s.tables) there.tree ∙ ap (reported_all (seen_now v.tree paths)) there.tables;
       tree = there.tree;
       holds = told_holds old t s.set_at s.tables es
           (λ w stands unfired right same.
-          look_told old t (subst (λ (t : Tree). (path : Path) → Loses t.zxid old.tree.nodes t.nodes path) (sym there.tree) loses) w
+          look_told old t paths (subst (λ (t : Tree). Covers old t paths) (sym there.tree) covers) (subst (λ (t : Tree). (path : Path) → Loses t.zxid old.tree.nodes t.nodes path) (sym there.tree) loses) w
           (there.holds.none w stands) (s.set_at w) unfired right same)
           there.holds;
     };
   }
 
 -- what calls took away since the earlier front, and why a look gets due then
-abbrev pub Lost : FrontView → FrontView → Bool → Type 0
-Lost old v took =
+abbrev pub Lost : FrontView → List ℕ → FrontView → Bool → Type 0
+Lost old ids v took =
     (v.tree.nodes ≡ old.tree.nodes)
-    ⊎ (((path : Path) → Loses v.tree.zxid old.tree.nodes v.tree.nodes path) × ((took ≡ true) ⊎ Gone v))
+    ⊎ (((path : Path) → Loses v.tree.zxid old.tree.nodes v.tree.nodes path) × ((took ≡ true) ⊎ Gone ids v))
 
-looks_if : {Asks : Asking} (due : Bool) (old v : FrontView) (s : Scene) → AtIf (Some old) v s
+looks_if : {Asks : Asking} (due : Bool) (old v : FrontView) (paths : List Path) → Covers old v.tree paths → (s : Scene) → AtIf (Some old) v s
     → (v.tree.nodes ≡ old.tree.nodes) ⊎ (((path : Path) → Loses v.tree.zxid old.tree.nodes v.tree.nodes path) × (due ≡ true))
-    → Reaches Asks (looked_if due (watched old) v) s []
-looks_if false old v s there (inl same) =
+    → Reaches Asks (looked_if due paths v) s []
+looks_if false old v paths covers s there (inl same) =
     stays None v s (record {
+      settled = there.settled;
       base = there.base;
       tables = there.tables;
       tree = there.tree;
       holds = none_lost old (tree_of s) s.set_at s.tables (ap (λ (t : Tree). t.nodes) there.tree ∙ same) there.holds;
     })
-looks_if false old v s there (inr (loses, due)) = absurd (true≢false (sym due))
-looks_if true old v s there (inl same) =
-    looks_by old v s
+looks_if false old v paths covers s there (inr (loses, due)) = absurd (true≢false (sym due))
+looks_if true old v paths covers s there (inl same) =
+    looks_by old v paths covers s
     (λ path. subst (λ nodes. Loses v.tree.zxid old.tree.nodes nodes path) (sym same) (loses_nothing v.tree.zxid old.tree.nodes path)) there
-looks_if true old v s there (inr (loses, due)) = looks_by old v s loses there
+looks_if true old v paths covers s there (inr (loses, due)) = looks_by old v paths covers s loses there
 
 -- after calls that ended sessions
-pub tidies : {Asks : Asking} (reported : List Reply) (old v : FrontView) (s : Scene) → AtIf (Some old) v s
-    → Lost old v (list_any takes_nodes reported) → Reaches Asks (tidied_if true reported (watched old) v) s []
-tidies reported old v s there lost =
-    still (Some old) None (swept v) (tidied_if true reported (watched old) v) s []
-    (sweeps (Some old) (gone_from v) v s (all_gone v.tree.sessions v.tables.attachments) there)
-    (λ next here. looks_if (took_unnamed reported v) old (swept v) next here (due lost))
+pub tidies : {Asks : Asking} (reported : List Reply) (ids : List ℕ) (old v : FrontView) (paths : List Path) → Covers old v.tree paths → (s : Scene)
+    → AtIf (Some old) v s → Lost old ids v (list_any takes_nodes reported) → Reaches Asks (tidied_if true reported ids paths v) s []
+tidies reported ids old v paths covers s there lost =
+    still (Some old) None (swept ids v) (tidied_if true reported ids paths v) s []
+    (sweeps (Some old) (gone_from ids v) v s (all_gone v.tree.sessions ids) there)
+    (λ next here. looks_if (took_unnamed reported ids v) old (swept ids v) paths covers next here (due lost))
   where
-    due : Lost old v (list_any takes_nodes reported)
-        → (v.tree.nodes ≡ old.tree.nodes) ⊎ (((path : Path) → Loses v.tree.zxid old.tree.nodes v.tree.nodes path) × (took_unnamed reported v ≡ true))
+    due : Lost old ids v (list_any takes_nodes reported)
+        → (v.tree.nodes ≡ old.tree.nodes) ⊎ (((path : Path) → Loses v.tree.zxid old.tree.nodes v.tree.nodes path) × (took_unnamed reported ids v ≡ true))
     due (inl same) = inl same
-    due (inr (loses, why)) = inr (loses, becomes_due reported v why)
+    due (inr (loses, why)) = inr (loses, becomes_due reported ids v why)

@@ -17,14 +17,14 @@ use Rattle.zwatches.specs.declared.watch.Watch.{Watch}
 use Rattle.zwatches.specs.Watches.{fires_once}
 use Rattle.zwatches.specs.Events.{fires}
 use Rattle.zwatches.proofs.Worked.{ends_once}
-use Rattle.zfront.specs.Front.{FrontView, watched}
+use Rattle.zfront.specs.Front.{FrontView}
 use Rattle.zfront_laws.specs.watches.Watching.{IsSameAt, is_told}
 use Rattle.zfront_laws.proofs.watches_lemmas.Keeping.{IsRight, no_data, there_children, there_data}
 use Rattle.zfront_laws.proofs.watches_lemmas.Looking.{gone_seen, less_seen, seen_now}
 use Rattle.zfront_laws.proofs.watches_lemmas.Standing.{In, Unfired, fires_data, fires_children, fires_each_data, fires_each_children, fires_recursive}
 use Rattle.zfront_laws.proofs.watches_lemmas.Taking.{Loses}
 use Rattle.zfront_laws.proofs.watches_lemmas.Telling.{Tells, knows, told_all, told_fired, told_once}
-use Rattle.zfront_laws.proofs.watches_lemmas.Watched.{watched_here}
+use Rattle.zfront_laws.proofs.watches_lemmas.Watched.{Covers}
 
 -- a watch that events don't end is told of each that fires it
 tells_if : (e : Event) (w : Watch) (b : Bool) → fires_once w.kind ≡ b → fires e.kind e.path w ≡ true → (fires_once w.kind ≡ true → ⊥) → is_told e w ≡ true
@@ -49,10 +49,11 @@ none_read f (Some n) is = absurd (cc is)
 some_read : (o : Option Node) (none : o ≡ None) (z : _) → option_map (λ (n : Node). n.pzxid) o ≡ Some z → ⊥
 some_read o none z last = absurd (cc (sym (ap (option_map (λ (n : Node). n.pzxid)) none) ∙ last))
 
-module _ (old : FrontView) (t : Tree) (loses : (path : Path) → Loses t.zxid old.tree.nodes t.nodes path) (w : Watch) (stood : In old.tables w)
-    (before : Nodes) (unfired : Unfired w (seen_now t (watched old))) where
+module _ (old : FrontView) (t : Tree) (paths : List Path) (covers : Covers old t paths)
+    (loses : (path : Path) → Loses t.zxid old.tree.nodes t.nodes path) (w : Watch) (stood : In old.tables w)
+    (before : Nodes) (unfired : Unfired w (seen_now t paths)) where
   abbrev es : List Event
-  es = seen_now t (watched old)
+  es = seen_now t paths
 
   abbrev known : Nodes
   known = told_all t.nodes es w before
@@ -60,8 +61,11 @@ module _ (old : FrontView) (t : Tree) (loses : (path : Path) → Loses t.zxid ol
   module _ (q : Path) (goes : fires NodeDeleted q w ≡ true) where
     -- it is told of a node that is gone
     gone_tells : has_node old.tree.nodes q ≡ true → finite.get t.nodes q ≡ None → Tells es w q
-    gone_tells there none =
-        reached w es unfired (event NodeDeleted q) (gone_seen t q (watched old) none (watched_here old w q stood goes there)) goes
+    gone_tells there none = by (covers.all w q stood goes there)
+      where
+        by : Among q paths ⊎ (finite.get t.nodes q ≡ finite.get old.tree.nodes q) → Tells es w q
+        by (inl among) = reached w es unfired (event NodeDeleted q) (gone_seen t q paths none among) goes
+        by (inr same) = absurd (true≢false (sym there ∙ ap is_some (sym same ∙ none)))
 
     was_none : (Tells es w q → ⊥) → finite.get t.nodes q ≡ None → finite.get old.tree.nodes q ≡ None
     was_none untold none = by (finite.get old.tree.nodes q) refl
@@ -80,10 +84,6 @@ module _ (old : FrontView) (t : Tree) (loses : (path : Path) → Loses t.zxid ol
             none ∙ sym (ap (option_map but_children) (was_none untold (none_read but_children (finite.get t.nodes q) none)))
 
     -- and of one that lost a child
-    less_tells : fires NodeChildrenChanged q w ≡ true → has_node old.tree.nodes q ≡ true → children_at t.nodes q ≡ Some t.zxid → Tells es w q
-    less_tells changes there last =
-        reached w es unfired (event NodeChildrenChanged q) (less_seen t q (watched old) last (watched_here old w q stood goes there)) changes
-
     was_there : children_at t.nodes q ≡ Some t.zxid → has_node old.tree.nodes q ≡ true
     was_there last = by (loses q).of_data
       where
@@ -96,13 +96,19 @@ module _ (old : FrontView) (t : Tree) (loses : (path : Path) → Loses t.zxid ol
     children_known : fires NodeChildrenChanged q w ≡ true → children_at old.tree.nodes q ≡ children_at before q → children_at t.nodes q ≡ children_at known q
     children_known changes same = knows (λ n. n.pzxid) t.nodes old.tree.nodes before w q es same (λ untold. by untold (loses q).of_children)
       where
+        less : (Tells es w q → ⊥) → children_at t.nodes q ≡ Some t.zxid
+            → Among q paths ⊎ (finite.get t.nodes q ≡ finite.get old.tree.nodes q) → children_at t.nodes q ≡ children_at old.tree.nodes q
+        less untold last (inl among) =
+            absurd (untold (reached w es unfired (event NodeChildrenChanged q) (less_seen t q paths last among) changes))
+        less untold last (inr still) = ap (option_map (λ (n : Node). n.pzxid)) still
+
         by : (Tells es w q → ⊥)
             → (children_at t.nodes q ≡ children_at old.tree.nodes q) ⊎ ((children_at t.nodes q ≡ None) ⊎ (children_at t.nodes q ≡ Some t.zxid))
             → children_at t.nodes q ≡ children_at old.tree.nodes q
         by untold (inl still) = still
         by untold (inr (inl none)) =
             none ∙ sym (ap (option_map (λ (n : Node). n.pzxid)) (was_none untold (none_read (λ n. n.pzxid) (finite.get t.nodes q) none)))
-        by untold (inr (inr last)) = absurd (untold (less_tells changes (was_there last) last))
+        by untold (inr (inr last)) = less untold last (covers.all w q stood goes (was_there last))
 
   missing_known : w.kind ≡ Missing → has_node before w.path ≡ false → data_at old.tree.nodes w.path ≡ data_at before w.path
       → data_at t.nodes w.path ≡ data_at before w.path

@@ -450,6 +450,7 @@ result_touches : (t : Tree) (u : Update) (path : Path) → Touches (t.zxid + 1) 
 result_touches t (act.Create create) path = create_touches (t.zxid + 1) path t create (create_step t 0 create) (create_did t 0 create path)
 result_touches t (act.Delete delete) path = delete_touches (t.zxid + 1) path t delete (delete_step t delete) (delete_did t delete path)
 result_touches t (act.SetData set) path = set_touches (t.zxid + 1) path t set (set_step t set) (set_did t set path)
+result_touches t (act.SetAcl set) path = no_events (t.zxid + 1) path (act.SetAcl set) (update_result t 0 (act.SetAcl set)) refl
 result_touches t (act.Multi parts) path = multi_touches (t.zxid + 1) path t parts (run t 0 parts) (run_did (t.zxid + 1) path 0 parts t refl)
 result_touches t (act.Open ticks) path = no_events (t.zxid + 1) path (act.Open ticks) (update_result t 0 (act.Open ticks)) refl
 result_touches t (act.Ping session) path = no_events (t.zxid + 1) path (act.Ping session) (update_result t 0 (act.Ping session)) refl

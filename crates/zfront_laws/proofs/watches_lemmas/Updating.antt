@@ -1,13 +1,12 @@
 -- A server at a scene, where it makes calls.
-use Rattle.std.proofs.Common.{◌≡◌, ◌∙◌, ◌+◌, ℕ, Bool, true, false, List, [], ◌∷◌, ◌++◌, Some, None, refl, sym, ap, subst, inl, inr, arith}
+use Rattle.std.proofs.Common.{◌≡◌, ◌∙◌, ◌+◌, ◌<◌, ℕ, Bool, true, false, List, [], ◌∷◌, ◌++◌, Some, None, refl, sym, ap, subst, inl, inr, arith}
 use Rattle.std.proofs.Math.Bool.{or-true}
-use Rattle.std.specs.Prelude.{◌⊎◌, ◌||◌, map, nat_le, if◌then◌else◌}
+use Rattle.std.specs.Prelude.{◌⊎◌, ◌||◌, is_some, map, nat_le, if◌then◌else◌}
 use Rattle.std.specs.List.{list_any}
 use Rattle.std.specs.FinMap as finite
 use Rattle.ztree.specs.Lawful.{IsLawful}
-use Rattle.ztree.specs.Tree.{Tree, Nodes, Path, opening_tree, with_next_zxid}
+use Rattle.ztree.specs.Tree.{Tree, Nodes, Path, with_next_zxid}
 use Rattle.ztree.specs.Sessions.{with_session, without_session, with_renewed_session}
-use Rattle.ztree.specs.declared.limits.TheConstants.{MAX_SESSIONS}
 use Rattle.zcalls.specs.Lists.{Among}
 use Rattle.zcalls.specs.declared.call.Call.{Call}
 use Rattle.zcalls.specs.declared.call.Call.TheVariants.{Update}
@@ -28,10 +27,11 @@ use Rattle.zwatches.specs.Events.{fires}
 use Rattle.zconnections.specs.attachments.Attachments.{AttachmentsView}
 use Rattle.zconnections.specs.Tables.{TablesView}
 use Rattle.zconnections.specs.Sweeping.{noted, made_one}
-use Rattle.zfront.specs.Front.{FrontView, with_tables, asked, replies_to, takes_nodes}
+use Rattle.zfront.specs.Front.{FrontView, with_tables, asked, ending, replies_to, takes_nodes}
 use Rattle.zfront.specs.Ticking.{ping, tick_calls}
 use Rattle.zfront_laws.specs.Logs.{done_by}
 use Rattle.zfront_laws.specs.watches.Watching.{Scene, Asking, Served, Fired, Moved, tree_of, after, HasChanged, IsSameAt, takes_more}
+use Rattle.zfront_laws.proofs.Ending.{EndsAmong}
 use Rattle.zfront_laws.proofs.watches_lemmas.Changing.{has_changed}
 use Rattle.zfront_laws.proofs.watches_lemmas.Holding.{Holds, absorbing, knowing, update_holds, lost_holds, still_holds}
 use Rattle.zfront_laws.proofs.watches_lemmas.Owning.{UpdateNames}
@@ -44,7 +44,7 @@ use Rattle.zfront_laws.proofs.watches_lemmas.Single.{OfMulti}
 use Rattle.zfront_laws.proofs.watches_lemmas.Standing.{In}
 use Rattle.zfront_laws.proofs.watches_lemmas.Taking.{TakesTo, Owned, Loses, loses_nothing, tick_takes}
 use Rattle.zfront_laws.proofs.watches_lemmas.Telling.{AreApart, IsNowhere, told_all_leaves, told_once, untold_nowhere}
-use Rattle.zfront_laws.proofs.watches_lemmas.Tidying.{Gone, Lost}
+use Rattle.zfront_laws.proofs.watches_lemmas.Tidying.{Gone, Lost, owned_there}
 
 -- an update that takes nothing away is reported whole
 module _ (v : FrontView) (s : Scene) (u : Act) (there : At v s) where
@@ -55,7 +55,7 @@ module _ (v : FrontView) (s : Scene) (u : Act) (there : At v s) where
   right = ap (λ t. (step t 0 u).1) (sym there.tree)
 
   goes : tree_of (after (Served (Update u) reported) s) ≡ (step (tree_of s) 0 u).0
-  goes = last_tree s.log opening_tree (Update u) reported
+  goes = last_tree s.log s.start (Update u) reported
 
   abbrev middle : TablesView
   middle = record s.tables { attachments = noted u reported s.tables.attachments }
@@ -67,7 +67,7 @@ module _ (v : FrontView) (s : Scene) (u : Act) (there : At v s) where
   second = after (Moved middle) (after (Served (Update u) reported) s)
 
   lawful : IsLawful (step (tree_of s) 0 u).0
-  lawful = subst IsLawful goes (is_lawful (after (Served (Update u) reported) s))
+  lawful = subst IsLawful goes (is_lawful (after (Served (Update u) reported) s) there.settled)
 
   -- what the watch knows after some of the events
   abbrev known : List Event → Watch → Nodes
@@ -76,7 +76,7 @@ module _ (v : FrontView) (s : Scene) (u : Act) (there : At v s) where
   changed : (first : List Event) (e : Event) (t : TablesView) (w : Watch) → Among e es → (AreApart es → IsNowhere e.path first) → In s.tables w
       → fires e.kind e.path w ≡ true → HasChanged (record second { set_at = known first; tables = t }) w
   changed first e t w among apart stands fired =
-      by (has_changed s u e w (s.set_at w) (known first w) lawful (subst (λ r. Among e (events_of u r)) right among) fired
+      by (has_changed s there.settled u e w (s.set_at w) (known first w) lawful (subst (λ r. Among e (events_of u r)) right among) fired
       (there.holds.right w stands) (there.holds.seen w stands)
       (told_once (tree_of second).nodes first w (s.set_at w))
       (λ all. told_all_leaves (tree_of second).nodes w e.path first (s.set_at w) (untold_nowhere first w e.path
@@ -106,6 +106,7 @@ module _ (v : FrontView) (s : Scene) (u : Act) (there : At v s) where
     );
     log = refl;
     there = record {
+      settled = there.settled;
       base = there.base;
       tables = ap (absorbing u reported) there.tables;
       tree = goes ∙ ap (λ t. (step t 0 u).0) there.tree;
@@ -143,6 +144,7 @@ module _ (calls : List Call) (v : FrontView) (s : Scene) (there : At v s) where
   -- where the nodes are the same, nothing was taken
   pub nothing_taken : (tree_after v.tree calls).nodes ≡ v.tree.nodes → At (asked calls v) next
   nothing_taken same = record {
+    settled = there.settled;
     base = there.base;
     tables = there.tables;
     tree = goes_to;
@@ -151,9 +153,11 @@ module _ (calls : List Call) (v : FrontView) (s : Scene) (there : At v s) where
   }
 
   -- all that they took is still to be told
-  pub taken : (took : Bool) → TakesTo v.tree (tree_after v.tree calls) took → AtIf (Some v) (asked calls v) next × Lost v (asked calls v) took
-  taken took takes = (
+  pub taken : (took : Bool) → EndsAmong calls v.tree → TakesTo v.tree (tree_after v.tree calls) took
+      → AtIf (Some v) (asked calls v) next × Lost v (ending calls v.tree) (asked calls v) took
+  taken took told takes = (
     record {
+      settled = there.settled;
       base = there.base;
       tables = there.tables;
       tree = goes_to;
@@ -167,19 +171,32 @@ module _ (calls : List Call) (v : FrontView) (s : Scene) (there : At v s) where
           subst (λ (t : Tree). (path : Path) → Loses (tree_of next).zxid t.nodes (tree_of next).nodes path) (sym there.tree)
           (subst (λ (u : Tree). (path : Path) → Loses u.zxid v.tree.nodes u.nodes path) (sym goes_to) (all_lose v.tree (tree_after v.tree calls) took takes))
 
+      lawful : IsLawful v.tree
+      lawful = subst IsLawful there.tree (is_lawful s there.settled)
+
+      lives_by : (id owner : ℕ) → 0 < id → owner ≡ id → (owner ≡ 0) ⊎ (finite.contains_key v.tree.sessions owner ≡ true)
+          → finite.contains_key v.tree.sessions id ≡ true
+      lives_by id owner above is (inl nobody) = absurd (omega (arith, above, nobody, is))
+      lives_by id owner above is (inr some) = ap (finite.contains_key v.tree.sessions) (sym is) ∙ some
+
+      lives : (id : ℕ) → Owned v.tree.nodes id → finite.contains_key v.tree.sessions id ≡ true
+      lives id (above, path, n, found, is) =
+          lives_by id n.owner above is (owned_there v.tree.sessions n.owner (lawful.owners path n found))
+
       why : (took ≡ true) ⊎ ((id : ℕ) × (finite.get (tree_after v.tree calls).sessions id ≡ None) × Owned v.tree.nodes id)
-          → (took ≡ true) ⊎ Gone (asked calls v)
+          → (took ≡ true) ⊎ Gone (ending calls v.tree) (asked calls v)
       why (inl some) = inl some
       why (inr (id, gone, owned)) =
           inr (
             id,
             gone,
+            told id (lives id owned) (ap is_some gone),
             ap (λ (t : TablesView). made_one t.attachments id) (sym there.tables)
                 ∙ owner_made s.tables.attachments (tree_of s).nodes id there.holds.owners
                 (subst (λ (t : Tree). Owned t.nodes id) (sym there.tree) owned),
           )
 
-      lost : TakesTo v.tree (tree_after v.tree calls) took → Lost v (asked calls v) took
+      lost : TakesTo v.tree (tree_after v.tree calls) took → Lost v (ending calls v.tree) (asked calls v) took
       lost (inl same) = inl same
       lost (inr (zxid, moved, reason)) = inr (all_lose v.tree (tree_after v.tree calls) took takes, why reason)
 
@@ -217,9 +234,9 @@ opens_so t false false why other did is = is
 pub open_leaves : (t : Tree) (ticks : ℕ) → (step t 0 (act.Open ticks)).0.nodes ≡ t.nodes
 unfolding step
 open_leaves t ticks =
-    opens_so t (is_exhausted t (act.Open ticks)) (nat_le MAX_SESSIONS (finite.len t.sessions)) (reply.Refused Exhausted)
+    opens_so t (is_exhausted t (act.Open ticks)) (nat_le t.limits.sessions (finite.len t.sessions)) (reply.Refused Exhausted)
     (reply.Refused TooManySessions)
-    (with_next_zxid (with_session t 0 (granted_timeout ticks)), reply.Opened (t.zxid + 1) (granted_timeout ticks)) refl
+    (with_next_zxid (with_session t 0 (granted_timeout t.limits.timeout ticks)), reply.Opened (t.zxid + 1) (granted_timeout t.limits.timeout ticks)) refl
 
 -- ---- what the calls of a tick take away
 

@@ -11,7 +11,7 @@ use Rattle.zpath.specs.First.{first_that_holds}
 use Rattle.zpath.proofs.First.{no_test_holds}
 use Rattle.ztree.specs.declared.node.Node.{Node}
 use Rattle.ztree.specs.Tree.{Tree, Path, Nodes, has_node, parent_of, new_node, with_node, without_node, with_child}
-use Rattle.ztree.specs.Tree.{without_child, with_data, with_change_at}
+use Rattle.ztree.specs.Tree.{without_child, with_data, with_acl, with_change_at}
 use Rattle.ztree.proofs.Sorted.{paths_total, same_path}
 use Rattle.ztree.proofs.Maps.{same_or_other, get-insert-here, get-remove-elsewhere, not_tied}
 use Rattle.ztree.proofs.Nodes.{get-insert-other}
@@ -21,6 +21,7 @@ use Rattle.zcalls.specs.declared.refusal.Refusal.TheVariants.{Exhausted, BadVers
 use Rattle.zcalls.specs.declared.call.Create.{Create}
 use Rattle.zcalls.specs.declared.call.Delete.{Delete}
 use Rattle.zcalls.specs.declared.call.SetData.{SetData}
+use Rattle.zcalls.specs.declared.call.SetAcl.{SetAcl}
 use Rattle.zcalls.specs.declared.call.Check.{Check}
 use Rattle.zcalls.specs.declared.call.Part.{Part}
 use Rattle.zcalls.specs.declared.call.Part.TheVariants as part
@@ -32,6 +33,7 @@ use Rattle.zcalls.specs.declared.reply.PartReply.{PartReply}
 use Rattle.zcalls.specs.declared.reply.PartReply.TheVariants as part_reply
 use Rattle.zcalls.specs.declared.reply.Reply.{Reply}
 use Rattle.zcalls.specs.declared.reply.Reply.TheVariants as reply
+use Rattle.zcalls.specs.Part.{acl_step, has_other_acl, unless_other}
 use Rattle.zcalls.specs.Part.{create_step, delete_step, set_step, check_step, part_step, reported_as_part, create_refusals}
 use Rattle.zcalls.specs.Part.{delete_refusals, unless_refused, made_path, owner_of, term_of, on_version}
 use Rattle.zcalls.specs.Part.{has_other_version, with_node_set}
@@ -104,15 +106,15 @@ dropped t at path = record {
       );
 }
 
--- a node is written
-written : (nodes : Nodes) (at : Path) (old new : Node) (path : Path) → finite.get nodes at ≡ Some old → new.pzxid ≡ old.pzxid
-    → Leaves nodes (finite.insert nodes at new) path (event NodeDataChanged at ∷ [])
-written nodes at old new path is same = near (same_or_other paths_total same_path path at)
+-- a node is written, whatever events tell of it
+written : (nodes : Nodes) (at : Path) (old new : Node) (path : Path) (events : List Event) → finite.get nodes at ≡ Some old
+    → new.pzxid ≡ old.pzxid → Leaves nodes (finite.insert nodes at new) path events
+written nodes at old new path events is same = near (same_or_other paths_total same_path path at)
   where
     there : has_node nodes at ≡ true
     there = ap is_some is
 
-    near : (path ≡ at) ⊎ (path ≢ at) → Leaves nodes (finite.insert nodes at new) path (event NodeDataChanged at ∷ [])
+    near : (path ≡ at) ⊎ (path ≢ at) → Leaves nodes (finite.insert nodes at new) path events
     near (inl here) = record {
       missing = λ none misses. absurd (true≢false (sym there ∙ ap (has_node nodes) (sym here) ∙ none));
       there = λ some misses. (
@@ -204,12 +206,30 @@ set_did t set path = by (finite.get t.nodes set.path) refl
     chosen : (n : Node) → finite.get t.nodes set.path ≡ Some n → (test : Bool)
         → ChangeDid t path (of_set set) (if test then Err BadVersion else Ok (with_node_set t set.path (write n)))
     chosen n is true = tt
-    chosen n is false = written t.nodes set.path n (write n) path is refl
+    chosen n is false = written t.nodes set.path n (write n) path (event NodeDataChanged set.path ∷ []) is refl
 
     by : (o : Option Node) → finite.get t.nodes set.path ≡ o
         → ChangeDid t path (of_set set) (on_version set.version o (λ n. with_node_set t set.path (write n)))
     by None is = tt
     by (Some n) is = chosen n is (has_other_version set.version n)
+
+-- a write of an access control list is told by no event
+abbrev no_event : ChangeReply → List Event
+no_event did = []
+
+acl_did : (t : Tree) (set : SetAcl) (path : Path) → ChangeDid t path no_event (acl_step t set)
+unfolding acl_step
+acl_did t set path = by (finite.get t.nodes set.path) refl
+  where
+    chosen : (n : Node) → finite.get t.nodes set.path ≡ Some n → (test : Bool)
+        → ChangeDid t path no_event (if test then Err BadVersion else Ok (with_node_set t set.path (with_acl n)))
+    chosen n is true = tt
+    chosen n is false = written t.nodes set.path n (with_acl n) path [] is refl
+
+    by : (o : Option Node) → finite.get t.nodes set.path ≡ o
+        → ChangeDid t path no_event (unless_other (has_other_acl set.version) o (λ n. with_node_set t set.path (with_acl n)))
+    by None is = tt
+    by (Some n) is = chosen n is (has_other_acl set.version n)
 
 -- what a part did
 abbrev PartDid : Tree → Part → Path → Result (Tree × PartReply) Refusal → Type 0
@@ -302,6 +322,13 @@ set_reported t set path (Ok (u, Created at)) did = did
 set_reported t set path (Ok (u, Deleted)) did = did
 set_reported t set path (Ok (u, Set stat)) did = did
 
+acl_reported : (t : Tree) (set : SetAcl) (path : Path) (r : Result (Tree × ChangeReply) Refusal) → ChangeDid t path no_event r
+    → Did t (act.SetAcl set) path (change_result t r)
+acl_reported t set path (Err refusal) did = untouched t.nodes path []
+acl_reported t set path (Ok (u, Created at)) did = did
+acl_reported t set path (Ok (u, Deleted)) did = did
+acl_reported t set path (Ok (u, Set stat)) did = did
+
 multi_reported : (t : Tree) (parts : List Part) (path : Path) (r : Run) → RunDid t parts path r → Did t (act.Multi parts) path (multi_result t r)
 multi_reported t parts path (Err (number, refusal)) did = untouched t.nodes path []
 multi_reported t parts path (Ok (u, reported)) did = did
@@ -315,6 +342,7 @@ update_reported : (t : Tree) (client : ℕ) (update : Update) (path : Path) → 
 update_reported t client (act.Create create) path stays = create_reported t create path (create_step t client create) (create_did t client create path)
 update_reported t client (act.Delete delete) path stays = delete_reported t delete path (delete_step t delete) (delete_did t delete path)
 update_reported t client (act.SetData set) path stays = set_reported t set path (set_step t set) (set_did t set path)
+update_reported t client (act.SetAcl set) path stays = acl_reported t set path (acl_step t set) (acl_did t set path)
 update_reported t client (act.Multi parts) path stays = multi_reported t parts path (run t client parts) (run_did t client parts path)
 update_reported t client (act.Open ticks) path stays = either t (act.Open ticks) path _ _ _ (untouched t.nodes path []) (untouched t.nodes path [])
 update_reported t client (act.Ping session) path stays = either t (act.Ping session) path _ _ _ (untouched t.nodes path []) (untouched t.nodes path [])

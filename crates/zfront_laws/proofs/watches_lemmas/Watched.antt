@@ -3,20 +3,19 @@ use Rattle.std.proofs.Common.{◌≡◌, ◌≢◌, ◌∙◌, Bool, true, false
 use Rattle.std.proofs.Math.Bool.{or-true}
 use mathlib.Core.Bool.{true≢false}
 use lib.Dec.{T}
-use Rattle.std.specs.Prelude.{◌||◌, map, if◌then◌else◌}
+use Rattle.std.specs.Prelude.{◌⊎◌, ◌||◌, map, if◌then◌else◌}
 use Rattle.std.specs.List.{AllByRecursion, filter, list_any}
 use Rattle.std.specs.Ordering.{eq_by_cmp, is_lt}
 use Rattle.std.specs.Cmp.{tied_itself}
 use Rattle.std.specs.declared.cmp.Ordering.TheVariants.{Less, Equal}
 use Rattle.std.specs.FinMap as finite
-use Rattle.std.specs.FinMap.{is_sorted, entries_sorted}
+use Rattle.std.specs.FinMap.{is_sorted}
 use Rattle.std.specs.FinMap.Entries.{below_all}
 use Rattle.std.specs.FinSet.{contains, items, contains-items}
 use Rattle.std.proofs.lemmas.List.Folds.{list_any-from_Any}
 use Rattle.std.proofs.lemmas.Map.Views.{Contains-from_any}
 use Rattle.zpath.specs.Grammar.{path_cmp}
-use Rattle.ztree.specs.declared.node.Node.{Node}
-use Rattle.ztree.specs.Tree.{Path, has_node}
+use Rattle.ztree.specs.Tree.{Path, Tree, has_node}
 use Rattle.ztree.proofs.Maps.{tied, tied_same}
 use Rattle.ztree.proofs.Sorted.{both_parts, is_less, paths_total, same_path}
 use Rattle.zcalls.specs.Lists.{Among}
@@ -25,13 +24,13 @@ use Rattle.zwatches.specs.declared.watch.Watch.{Watch}
 use Rattle.zwatches.specs.Watches.{Watches}
 use Rattle.zwatches.specs.Events.{fires, is_awaited}
 use Rattle.zwatches.proofs.Order.{watches_total, same_watch}
-use Rattle.zfront.specs.Front.{FrontView, watched}
+use Rattle.zfront.specs.Front.{FrontView}
 use Rattle.zfront_laws.proofs.watches_lemmas.Standing.{In}
 
 -- ---- what is among them
 
 module _ (test : Path → Bool) where
-  among_kept : (q : Path) (paths : List Path) → Among q paths → test q ≡ true → Among q (filter test paths)
+  pub among_kept : (q : Path) (paths : List Path) → Among q paths → test q ≡ true → Among q (filter test paths)
   among_kept q [] none passes = none
   among_kept q (path ∷ paths) (inl here) passes =
       by (test path) (ap test here ∙ passes)
@@ -45,7 +44,7 @@ module _ (test : Path → Bool) where
       by true among = inr among
       by false among = among
 
-  kept_among : (q : Path) (paths : List Path) → Among q (filter test paths) → Among q paths
+  pub kept_among : (q : Path) (paths : List Path) → Among q (filter test paths) → Among q paths
   kept_among q [] none = none
   kept_among q (path ∷ paths) among = by (test path) (kept_among q paths) among
     where
@@ -55,7 +54,7 @@ module _ (test : Path → Bool) where
       by true rest (inr there) = inr (rest there)
       by false rest there = inr (rest there)
 
-tied_among : (q : Path) (paths : List Path) → list_any (eq_by_cmp path_cmp q) paths ≡ true → Among q paths
+pub tied_among : (q : Path) (paths : List Path) → list_any (eq_by_cmp path_cmp q) paths ≡ true → Among q paths
 tied_among q [] is = absurd (true≢false (sym is))
 tied_among q (path ∷ paths) is = by (eq_by_cmp path_cmp q path) refl is (tied_among q paths)
   where
@@ -64,28 +63,16 @@ tied_among q (path ∷ paths) is = by (eq_by_cmp path_cmp q path) refl is (tied_
     by true ties holds rest = inl (sym (tied_same paths_total same_path q path ties))
     by false ties holds rest = inr (rest holds)
 
-among_tied : (q : Path) (paths : List Path) → Among q paths → list_any (eq_by_cmp path_cmp q) paths ≡ true
+pub among_tied : (q : Path) (paths : List Path) → Among q paths → list_any (eq_by_cmp path_cmp q) paths ≡ true
 among_tied q [] none = absurd none
 among_tied q (path ∷ paths) (inl here) =
     ap (λ b. b || list_any (eq_by_cmp path_cmp q) paths) (ap (eq_by_cmp path_cmp q) here ∙ tied paths_total same_path q)
 among_tied q (path ∷ paths) (inr there) = ap (λ b. eq_by_cmp path_cmp q path || b) (among_tied q paths there) ∙ or-true (eq_by_cmp path_cmp q path)
 
-awaits : (table : Watches) (w : Watch) (q : Path) → contains table w ≡ true → fires NodeDeleted q w ≡ true → is_awaited table NodeDeleted q ≡ true
+pub awaits : (table : Watches) (w : Watch) (q : Path) → contains table w ≡ true → fires NodeDeleted q w ≡ true → is_awaited table NodeDeleted q ≡ true
 awaits table w q stands fired =
     let at = Contains-from_any (tied_same watches_total same_watch) w (items table) (sym (contains-items table w) ∙ stands) in
     list_any-from_Any (fires NodeDeleted q) (items table) (at.0, w, at.1, at.2, fired)
-
--- a node that was there, where a watch waits for its deletion
-pub watched_here : (v : FrontView) (w : Watch) (q : Path) → In v.tables w → fires NodeDeleted q w ≡ true → has_node v.tree.nodes q ≡ true
-    → Among q (watched v)
-watched_here v w q stands fired there =
-    among_kept (is_awaited v.tables.watches NodeDeleted) q (finite.keys v.tree.nodes)
-    (tied_among q (finite.keys v.tree.nodes) (sym (finite.contains_key-keys v.tree.nodes q) ∙ there)) (awaits v.tables.watches w q stands fired)
-
-pub watched_there : (v : FrontView) (q : Path) → Among q (watched v) → has_node v.tree.nodes q ≡ true
-watched_there v q among =
-    finite.contains_key-keys v.tree.nodes q
-    ∙ among_tied q (finite.keys v.tree.nodes) (kept_among (is_awaited v.tables.watches NodeDeleted) q (finite.keys v.tree.nodes) among)
 
 -- ---- each is there once
 
@@ -98,28 +85,24 @@ less_apart p q less same =
     let bad : Less ≡ Equal = sym less ∙ ap (path_cmp p) same ∙ tied_itself paths_total p in
     absurd (cc bad)
 
-module _ (test : Path → Bool) where
-  above : (p : Path) (es : List (Path × Node)) → T (below_all path_cmp p es) → AllByRecursion (λ q. q ≢ p) (filter test (map (λ e. e.0) es))
+module _ {X : Type 0} where
+  above : (p : Path) (es : List (Path × X)) → T (below_all path_cmp p es) → AllByRecursion (λ q. q ≢ p) (map (λ e. e.0) es)
   above p [] below = tt
   above p (e ∷ es) below =
       let parts = both_parts (is_lt (path_cmp p e.0)) (below_all path_cmp p es) below in
-      by (test e.0) (less_apart p e.0 (is_less (path_cmp p e.0) parts.0)) (above p es parts.1)
-    where
-      by : (b : Bool) → e.0 ≢ p → AllByRecursion (λ q. q ≢ p) (filter test (map (λ e. e.0) es))
-          → AllByRecursion (λ q. q ≢ p) (if b then e.0 ∷ filter test (map (λ e. e.0) es) else filter test (map (λ e. e.0) es))
-      by true first rest = (first, rest)
-      by false first rest = rest
+      (less_apart p e.0 (is_less (path_cmp p e.0) parts.0), above p es parts.1)
 
-  distinct : (es : List (Path × Node)) → T (is_sorted path_cmp es) → AreDistinct (filter test (map (λ e. e.0) es))
+  pub distinct : (es : List (Path × X)) → T (is_sorted path_cmp es) → AreDistinct (map (λ e. e.0) es)
   distinct [] sorted = tt
   distinct (e ∷ es) sorted =
       let parts = both_parts (below_all path_cmp e.0 es) (is_sorted path_cmp es) sorted in
-      by (test e.0) (above e.0 es parts.0) (distinct es parts.1)
-    where
-      by : (b : Bool) → AllByRecursion (λ q. q ≢ e.0) (filter test (map (λ e. e.0) es)) → AreDistinct (filter test (map (λ e. e.0) es))
-          → AreDistinct (if b then e.0 ∷ filter test (map (λ e. e.0) es) else filter test (map (λ e. e.0) es))
-      by true first rest = (first, rest)
-      by false first rest = rest
+      (above e.0 es parts.0, distinct es parts.1)
 
-pub watched_once : (v : FrontView) → AreDistinct (watched v)
-watched_once v = distinct (is_awaited v.tables.watches NodeDeleted) (finite.entries v.tree.nodes) (entries_sorted v.tree.nodes)
+-- ---- paths at which a look finds all
+
+-- each was a node, and is there once; and each awaited node of then is among them, or is as it was
+pub record Covers (old : FrontView) (t : Tree) (paths : List Path) : Type 0 where
+  pub there : (q : Path) → Among q paths → has_node old.tree.nodes q ≡ true
+  pub once : AreDistinct paths
+  pub all : (w : Watch) (q : Path) → In old.tables w → fires NodeDeleted q w ≡ true → has_node old.tree.nodes q ≡ true
+      → Among q paths ⊎ (finite.get t.nodes q ≡ finite.get old.tree.nodes q)

@@ -7,7 +7,7 @@ use Rattle.zresponses.specs.declared.clock.Clock.{Clock}
 use Rattle.zconnections.specs.buffers.Inputs.InputView.{Opened, Came, Ended}
 use Rattle.zconnections.specs.buffers.Outbox.{ChunkView}
 use Rattle.zconnections.specs.buffers.Streams.{phase_of}
-use Rattle.ztree_service.specs.log.Logs.{Log, Leaves}
+use Rattle.ztree_service.specs.log.Logs.{Log, Leads}
 use Rattle.zconnections.specs.Tables.{is_open}
 use Rattle.zwatches.specs.declared.limits.WatchLimits.{WatchLimits}
 use Rattle.zfront.specs.Front.{FrontView}
@@ -57,27 +57,29 @@ Stays c (Takes (Opened d)) = d ≢ c
 Stays c (Takes (Ended d)) = d ≢ c
 Stays c other = Unit {0}
 
--- the chunks of a connection, for the bytes that arrived on it, with this clock and this secret:
--- the leading frames are answered, and while the connection is open no whole frame remains
-pub record Talks (times : Clock) (secret : List ℕ) (c : ℕ) (log : Log) (came : List ℕ) (went : List ChunkView) (on_now : Bool) : Type 0 where
+-- the chunks of a connection, for the bytes that arrived on it, with this clock, this secret, and a
+-- log that begins with this tree: the leading frames are answered, and while the connection is open
+-- no whole frame remains
+pub record Talks (times : Clock) (secret : List ℕ) (start : Tree) (c : ℕ) (log : Log) (came : List ℕ) (went : List ChunkView) (on_now : Bool) : Type 0 where
   pub frames : List (List ℕ)
   pub rest : List ℕ
   pub talk : Talk
   pub cuts : Cuts came frames rest
   pub chunks : went ≡ chunks_of c talk
-  pub answers : IsTalk times secret came log frames talk
+  pub answers : IsTalk times secret start came log frames talk
   pub ends : on_now ≡ true → IsEnd rest
   pub closes : is_closed talk ≡ not on_now
 
 -- This holds of each connection from its opening on. The front's steps may be any, and its tree
--- that of any earlier log. One log serves all connections: the earlier one, then that of the steps,
--- call by call. It leaves the front's tree, and its replies are those of one plain tree.
+-- that of any earlier log of any tree. One log serves all connections: the earlier one, then that of
+-- the steps, call by call. It leads from that tree to the front's, and its replies are those of one
+-- plain tree.
 abbrev pub EveryConnectionIsAnswered : Type 0
 EveryConnectionIsAnswered =
-    (limits : WatchLimits) (t : Tree) (secret : List ℕ) (times : Clock) (is_kept : Bool) (past : Log) (before behind : List Step) (old v : FrontView) (c : ℕ)
-    → Leaves past t → (earlier : Runs before (beginning limits t secret times is_kept) old)
+    (limits : WatchLimits) (t : Tree) (secret : List ℕ) (times : Clock) (is_kept : Bool) (start : Tree) (past : Log) (before behind : List Step) (old v : FrontView) (c : ℕ)
+    → Leads start past t → (earlier : Runs before (beginning limits t secret times is_kept) old)
     → GivesOnce c before (beginning limits t secret times is_kept) old earlier
     → phase_of old.tables.streams c ≡ None → AllByRecursion (Stays c) behind → (later : Runs behind (inputs.opened c old) v)
     → let log = past ++ (run_log before (beginning limits t secret times is_kept) old earlier ++ run_log behind (inputs.opened c old) v later) in
-    Leaves log v.tree
-    × Talks times secret c log (came_on c behind (inputs.opened c old) v later) (went_on c behind (inputs.opened c old) v later) (is_open v.tables c)
+    Leads start log v.tree
+    × Talks times secret start c log (came_on c behind (inputs.opened c old) v later) (went_on c behind (inputs.opened c old) v later) (is_open v.tables c)

@@ -6,7 +6,7 @@ use Rattle.std.specs.Prelude.{◌≡◌, ◌⊎◌, ℕ, ◌≤◌, pos, Bool, t
 use Rattle.std.specs.Option.{MatchOption}
 use Rattle.zcodec.specs.Readers.{whole}
 use Rattle.std.specs.FinMap.{get}
-use Rattle.ztree.specs.Tree.{Tree, opening_tree}
+use Rattle.ztree.specs.Tree.{Tree}
 use Rattle.ztree.specs.declared.session.Session.{Session}
 use Rattle.zcalls.specs.declared.call.Call.{Call}
 use Rattle.zcalls.specs.declared.reply.Reply.TheVariants.{Opened}
@@ -102,7 +102,7 @@ module _ (clock : Clock) (secret : List ℕ) where
     pub reads : request_in clock.base bytes ≡ Ok asked
     pub frames : reported ≡ answer_frame (told clock.base tree.zxid) asked.xid answer
     pub stands : log ≡ before ++ part
-    pub says : SaysOr (walked session asked.asked tree) (calls_in clock.tick session asked.asked) clock (now_of tree) asked.asked part answer
+    pub says : SaysOr (walked session asked.asked tree) (calls_in clock.terms session asked.asked) clock (now_of tree) asked.asked part answer
 
   -- each frame of a session has one answer, in order, and each answer has its frame. The calls of a
   -- request come in the log after those of earlier requests. Before a close, one frame may have no
@@ -122,14 +122,14 @@ module _ (clock : Clock) (secret : List ℕ) where
   abbrev pub IsOpened : ℕ → ConnectRequest → Log → List ℕ → Type 0
   IsOpened session greeting log reported =
       (before : Log) × (ticks : ℕ) × (greeting.session_id ≡ pos 0)
-      × (log ≡ before ++ (opening clock.tick greeting, Opened session ticks) ∷ [])
-      × (reported ≡ response_frame greeting (millis_reported clock.tick ticks) (long_of session) (password_of secret session))
+      × (log ≡ before ++ (opening clock.terms.tick greeting, Opened session ticks) ∷ [])
+      × (reported ≡ response_frame greeting (millis_reported clock.terms.tick ticks) (long_of session) (password_of secret session))
 
   abbrev pub IsReturned : ℕ → ConnectRequest → Tree → List ℕ → Type 0
   IsReturned session greeting tree reported =
       (sits : Session) × (greeting.session_id ≡ pos session) × (get tree.sessions session ≡ Some sits)
       × (given greeting ≡ password_of secret session)
-      × (reported ≡ response_frame greeting (millis_reported clock.tick sits.timeout) (long_of session) (given greeting))
+      × (reported ≡ response_frame greeting (millis_reported clock.terms.tick sits.timeout) (long_of session) (given greeting))
 
   -- these bytes are the connect response that gives this session
   pub record IsWelcome (session : ℕ) (bytes reported : List ℕ) (tree : Tree) (log : Log) : Type 0 where
@@ -149,14 +149,14 @@ module _ (clock : Clock) (secret : List ℕ) where
   Greeted session tree log frames Closes = length frames ≤ 1
 
   -- only a text is sent, then the close, and no frame is answered. The text is that of a front with
-  -- this clock, this secret, and the tree after a prefix of the log
-  abbrev pub SaysText : (FrontView → List ℕ) → Log → List (List ℕ) → Talk → Type 0
-  SaysText text log frames talk =
-      (frames ≡ []) × ((v : FrontView) × (front behind : Log) × (log ≡ front ++ behind) × (v.tree ≡ tree_behind opening_tree front)
+  -- this clock, this secret, and the tree after a prefix of the log, which begins with this tree
+  abbrev pub SaysText : Tree → (FrontView → List ℕ) → Log → List (List ℕ) → Talk → Type 0
+  SaysText start text log frames talk =
+      (frames ≡ []) × ((v : FrontView) × (front behind : Log) × (log ≡ front ++ behind) × (v.tree ≡ tree_behind start front)
       × (v.clock ≡ clock) × (v.secret ≡ secret) × (talk ≡ Answers (text v) Closes))
 
-  -- the chunks of a connection, from the leading frames of its bytes. If these begin with a four
-  -- letter word, its text is sent instead of a connect response
-  abbrev pub IsTalk : List ℕ → Log → List (List ℕ) → Talk → Type 0
-  IsTalk came log frames talk =
-      MatchOption (word_in came) ((session : ℕ) × Greeted session opening_tree log frames talk) (λ word. SaysText (text_of_word word) log frames talk)
+  -- the chunks of a connection, from the leading frames of its bytes, where the log begins with this
+  -- tree. If these begin with a four letter word, its text is sent instead of a connect response
+  abbrev pub IsTalk : Tree → List ℕ → Log → List (List ℕ) → Talk → Type 0
+  IsTalk start came log frames talk =
+      MatchOption (word_in came) ((session : ℕ) × Greeted session start log frames talk) (λ word. SaysText start (text_of_word word) log frames talk)

@@ -10,8 +10,9 @@ use Rattle.zconnections.specs.buffers.Inputs.InputView.{Opened, Came, Ended, Tic
 use Rattle.zconnections.specs.buffers.Streams.{bytes_of, opened, phase_of}
 use Rattle.zconnections.specs.declared.buffers.phase.Phase.{Phase}
 use Rattle.zconnections.specs.declared.buffers.phase.Phase.TheVariants.{Silent}
+use Rattle.zops.specs.RestoredLaws.{IsSettled}
 use Rattle.zwatches.specs.declared.watch.Watch.{Watch}
-use Rattle.ztree_service.specs.log.Logs.{Log, Leaves}
+use Rattle.ztree_service.specs.log.Logs.{Log, Leads}
 use Rattle.zconnections.specs.Tables.{TablesView, ended}
 use Rattle.zwatches.specs.declared.limits.WatchLimits.{WatchLimits}
 use Rattle.zfront.specs.Front.{FrontView}
@@ -22,9 +23,10 @@ use Rattle.zfront_laws.specs.Logs.{run_log}
 use Rattle.zfront_laws.specs.Runs.{Step, Takes, Sent, Took, Runs}
 use Rattle.zfront_laws.specs.watches.Watching.{Scene, Happening, Asking, Happens, Stands, IsUnchanged}
 
--- zxids are told from this base, the calls of this log were answered, and no watch was set
-abbrev pub opening_scene : ℕ → Log → TablesView → Scene
-opening_scene base log t = record { base = base; log = log; set_at = λ w. finite.empty; tables = t }
+-- zxids are told from this base, the calls of this log of this tree were answered, and no watch was
+-- set
+abbrev pub opening_scene : ℕ → Tree → Log → TablesView → Scene
+opening_scene base start log t = record { base = base; start = start; log = log; set_at = λ w. finite.empty; tables = t }
 
 -- the frame is a request with this record, where zxids are told from this base
 abbrev pub IsRequest : ℕ → Asked → List ℕ → Type 0
@@ -62,14 +64,14 @@ BringsAll [] s t = t ≡ s
 BringsAll (step ∷ steps) s t = (middle : Scene) × Brings step s middle × BringsAll steps middle t
 
 -- Whatever the steps of a front were, its tables and its log are those of a scene that allowed
--- happenings led to. The scene begins with any earlier log that left the first tree. Its log is
--- that one, then the log of the steps, call by call. No watch that is still set has missed a
--- change.
+-- happenings led to. The scene begins with any earlier log that led to the first tree from a settled
+-- one. Its log is that one, then the log of the steps, call by call. No watch that is still set has
+-- missed a change.
 abbrev pub EveryWatchIsReported : Type 0
 EveryWatchIsReported =
-    (limits : WatchLimits) (t : Tree) (secret : List ℕ) (times : Clock) (is_kept : Bool) (before : Log) (steps : List Step) (v : FrontView)
-    → Leaves before t → (runs : Runs steps (beginning limits t secret times is_kept) v)
-    → (s : Scene) × BringsAll steps (opening_scene times.base before (beginning limits t secret times is_kept).tables) s
+    (limits : WatchLimits) (t : Tree) (secret : List ℕ) (times : Clock) (is_kept : Bool) (start : Tree) (before : Log) (steps : List Step) (v : FrontView)
+    → IsSettled start → Leads start before t → (runs : Runs steps (beginning limits t secret times is_kept) v)
+    → (s : Scene) × BringsAll steps (opening_scene times.base start before (beginning limits t secret times is_kept).tables) s
     × (s.tables ≡ v.tables) × (s.log ≡ before ++ run_log steps (beginning limits t secret times is_kept) v runs)
-    × Leaves s.log v.tree
+    × Leads start s.log v.tree
     × ((w : Watch) → Stands s w → IsUnchanged s w)

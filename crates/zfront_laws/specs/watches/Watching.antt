@@ -7,7 +7,7 @@ use Rattle.std.specs.FinSet.{contains}
 use Rattle.std.specs.Option.{option_map_or}
 use Rattle.std.specs.Ordering.{eq_by_cmp}
 use Rattle.ztree.specs.declared.node.Node.{Node}
-use Rattle.ztree.specs.Tree.{Tree, Nodes, Path, opening_tree, has_node}
+use Rattle.ztree.specs.Tree.{Tree, Nodes, Path, has_node}
 use Rattle.zcalls.specs.Lists.{Among}
 use Rattle.zcalls.specs.declared.call.Call.{Call}
 use Rattle.zcalls.specs.declared.call.Call.TheVariants.{Update}
@@ -51,18 +51,19 @@ use Rattle.zconnections.specs.Reporting.{event_frame, reported}
 use Rattle.zresponses.specs.effects.Frames.{answer_frame, response_frame}
 use Rattle.zresponses.specs.effects.Watching.{unwatched, waiting}
 
--- the base from which zxids are told, the log of answered calls, the tables, and the nodes that
--- existed when each watch was set. For a watch that stays, a node of which it was told is there as
--- it was then
+-- the base from which zxids are told, the tree at the start, the log of answered calls, the tables,
+-- and the nodes that existed when each watch was set. For a watch that stays, a node of which it was
+-- told is there as it was then
 pub record Scene : Type 0 where
   pub base : ℕ
+  pub start : Tree
   pub log : Log
   pub set_at : Watch → Nodes
   pub tables : TablesView
 
 -- the tree after the log
 abbrev pub tree_of : Scene → Tree
-tree_of s = tree_after opening_tree (calls_of s.log)
+tree_of s = tree_after s.start (calls_of s.log)
 
 -- A call is answered. An event is sent to the watches that it fires. A watch is set. Watches of a
 -- connection are removed. A re-registered watch gets the event that it missed. A request is

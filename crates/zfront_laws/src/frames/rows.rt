@@ -2,7 +2,7 @@
 
 ghost use Rattle.std.specs.Prelude.{◌≡◌, ℕ, pos, true, false, List, [], ◌∷◌, ◌++◌, None, Some, Ok, Err};
 ghost use Rattle.std.specs.FinMap.{get};
-ghost use Rattle.ztree.specs.Tree.{Tree, opening_tree};
+ghost use Rattle.ztree.specs.Tree.{Tree};
 ghost use Rattle.zcalls.specs.declared.call.Call.{Call};
 ghost use Rattle.zcalls.specs.declared.reply.Reply.TheVariants.{Opened};
 ghost use Rattle.zjute.specs.declared.connecting.ConnectRequest.{ConnectRequest};
@@ -117,13 +117,13 @@ pub fn the_greeting_is_answered_first()
 pub fn a_session_is_reported_that_is_there()
     ensures opened { (clock : Clock) (secret : List ℕ) (session : ℕ) (greeting : ConnectRequest)
         (log : Log) (reported : List ℕ) (has : IsOpened clock secret session greeting log reported)
-        → log ≡ has.0 ++ (opening clock.tick greeting, Opened session has.1) ∷ [] }
+        → log ≡ has.0 ++ (opening clock.terms.tick greeting, Opened session has.1) ∷ [] }
     ensures asks { (clock : Clock) (secret : List ℕ) (session : ℕ) (greeting : ConnectRequest)
         (log : Log) (reported : List ℕ) → IsOpened clock secret session greeting log reported
         → greeting.session_id ≡ pos 0 }
     ensures password { (clock : Clock) (secret : List ℕ) (session : ℕ) (greeting : ConnectRequest)
         (log : Log) (reported : List ℕ) (has : IsOpened clock secret session greeting log reported)
-        → reported ≡ response_frame greeting (millis_reported clock.tick has.1) (long_of session)
+        → reported ≡ response_frame greeting (millis_reported clock.terms.tick has.1) (long_of session)
         (password_of secret session) }
     ensures returned { (clock : Clock) (secret : List ℕ) (session : ℕ) (greeting : ConnectRequest)
         (tree : Tree) (reported : List ℕ) (has : IsReturned clock secret session greeting tree reported)
@@ -137,18 +137,21 @@ pub fn a_session_is_reported_that_is_there()
 {}
 
 /// The text of a word is that of a front with this clock, this secret, and the tree after a prefix
-/// of the log. No frame is answered.
+/// of the log, which begins with the given tree. No frame is answered.
 pub fn a_text_is_that_of_a_tree_of_the_log()
-    ensures frames { (clock : Clock) (secret : List ℕ) (text : FrontView → List ℕ) (log : Log)
-        (frames : List (List ℕ)) (talk : Talk)
-        → SaysText clock secret text log frames talk → frames ≡ [] }
-    ensures talk { (clock : Clock) (secret : List ℕ) (text : FrontView → List ℕ) (log : Log)
-        (frames : List (List ℕ)) (talk : Talk) (has : SaysText clock secret text log frames talk)
+    ensures frames { (clock : Clock) (secret : List ℕ) (start : Tree) (text : FrontView → List ℕ)
+        (log : Log) (frames : List (List ℕ)) (talk : Talk)
+        → SaysText clock secret start text log frames talk → frames ≡ [] }
+    ensures talk { (clock : Clock) (secret : List ℕ) (start : Tree) (text : FrontView → List ℕ)
+        (log : Log) (frames : List (List ℕ)) (talk : Talk)
+        (has : SaysText clock secret start text log frames talk)
         → talk ≡ Answers (text has.1.0) Closes }
-    ensures front { (clock : Clock) (secret : List ℕ) (text : FrontView → List ℕ) (log : Log)
-        (frames : List (List ℕ)) (talk : Talk) (has : SaysText clock secret text log frames talk)
+    ensures front { (clock : Clock) (secret : List ℕ) (start : Tree) (text : FrontView → List ℕ)
+        (log : Log) (frames : List (List ℕ)) (talk : Talk)
+        (has : SaysText clock secret start text log frames talk)
         → log ≡ has.1.1 ++ has.1.2 }
-    ensures tree { (clock : Clock) (secret : List ℕ) (text : FrontView → List ℕ) (log : Log)
-        (frames : List (List ℕ)) (talk : Talk) (has : SaysText clock secret text log frames talk)
-        → has.1.0.tree ≡ tree_behind opening_tree has.1.1 }
+    ensures tree { (clock : Clock) (secret : List ℕ) (start : Tree) (text : FrontView → List ℕ)
+        (log : Log) (frames : List (List ℕ)) (talk : Talk)
+        (has : SaysText clock secret start text log frames talk)
+        → has.1.0.tree ≡ tree_behind start has.1.1 }
 {}

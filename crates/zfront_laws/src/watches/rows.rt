@@ -3,7 +3,7 @@
 ghost use Rattle.std.specs.Prelude.{◌≡◌, ◌⊎◌, ℕ, ℤ, true, false, List, [], ◌∷◌, None, Some, Ok};
 ghost use Rattle.std.specs.FinMap.{get, insert};
 ghost use Rattle.ztree.specs.declared.node.Node.{Node};
-ghost use Rattle.ztree.specs.Tree.{Nodes, has_node};
+ghost use Rattle.ztree.specs.Tree.{Nodes, Tree, has_node};
 ghost use Rattle.ztree.specs.support.Samples.{at_a, at_a_b};
 ghost use Rattle.zjute.specs.Frames.{Whole, next_of};
 ghost use Rattle.zjute.specs.declared.request.Asked.TheVariants as asked;
@@ -22,7 +22,7 @@ ghost use Rattle.zjute.specs.declared.watch_type.WatchType.TheVariants as typed;
 ghost use Rattle.zwatches.specs.Watches.{watch};
 ghost use Rattle.zwatches.specs.declared.watch.Watch.{Watch};
 ghost use Rattle.zwatches.specs.Events.{fires};
-ghost use Rattle.ztree_service.specs.log.Logs.{Log};
+ghost use Rattle.ztree_service.specs.log.Logs.{Log, calls_of, tree_after};
 ghost use Rattle.zconnections.specs.buffers.Inputs.InputView.{Opened};
 ghost use Rattle.zconnections.specs.buffers.Streams.{bytes_of, phase_of};
 ghost use Rattle.zconnections.specs.declared.buffers.phase.Phase.TheVariants.{Silent, Speaking};
@@ -131,13 +131,17 @@ pub fn what_may_not_happen()
         → is_open t 1 ≡ false → May none_asked (Moved t) s → ⊥ }
 {}
 
-/// A scene begins with the given log and tables. Taking updates leaves it unchanged. Opening a
-/// connection and sending a chunk make no call.
+/// A scene begins with the given log and tables, and its tree is the given one after that log.
+/// Taking updates leaves it unchanged. Opening a connection and sending a chunk make no call.
 pub fn what_opens()
-    ensures log { (base : ℕ) (log : Log) (t : TablesView)
-        → (opening_scene base log t).log ≡ log }
-    ensures tables { (base : ℕ) (log : Log) (t : TablesView)
-        → (opening_scene base log t).tables ≡ t }
+    ensures log { (base : ℕ) (start : Tree) (log : Log) (t : TablesView)
+        → (opening_scene base start log t).log ≡ log }
+    ensures tables { (base : ℕ) (start : Tree) (log : Log) (t : TablesView)
+        → (opening_scene base start log t).tables ≡ t }
+    ensures tree { (base : ℕ) (start : Tree) (log : Log) (t : TablesView)
+        → tree_of (opening_scene base start log t) ≡ tree_after start (calls_of log) }
+    ensures first { (base : ℕ) (start : Tree) (t : TablesView)
+        → tree_of (opening_scene base start [] t) ≡ start }
     ensures taken { (s t : Scene) → Brings Took s t → t ≡ s }
     ensures there { (s t : Scene) → Brings (Takes (Opened 1)) s t → t.log ≡ s.log }
     ensures sent { (s t : Scene) → Brings Sent s t → t.log ≡ s.log }

@@ -1,8 +1,9 @@
 -- What is read of the rows.
-use Rattle.std.specs.Prelude.{◌≡◌, ◌↔◌, ℕ, Bool, true, false, ◌==◌, ◌&&◌, List, [], ◌∷◌, ◌++◌, Option, None, Some, if◌then◌else◌}
-use Rattle.std.specs.Option.{option_map_or, option_and_then}
+use Rattle.std.specs.Prelude.{◌≡◌, ◌↔◌, IsPermutation, IsSorted, ℕ, Bool, true, false, ◌==◌, ◌&&◌, List, [], ◌∷◌, ◌++◌, Option, None, Some, if◌then◌else◌}
+use Rattle.std.specs.Option.{option_map, option_map_or, option_and_then}
 use Rattle.std.specs.List.{filter_map}
 use Rattle.std.specs.FinMap.{get}
+use Rattle.zpath.specs.Grammar.{path_cmp}
 use Rattle.zslots.specs.declared.id.Id.{Id}
 use Rattle.zslots.specs.declared.list.List.{List as IdList}
 use Rattle.zslots.specs.Ids.{Ids, IsIn, NoTwo}
@@ -12,7 +13,7 @@ use Rattle.ztree.specs.Tree.{Name, Path}
 use Rattle.ztree.specs.Stale.{is_due, is_stale_at}
 use Rattle.znodes.specs.NodesView.{NodesView, path_of}
 use Rattle.znodes.specs.declared.row.Row.{Row}
-use Rattle.znodes.specs.support.Rows.{is_live, sibling_links, timed_links}
+use Rattle.znodes.specs.support.Rows.{is_live, sibling_links, fellow_links, timed_links}
 
 -- the row, where its node is in the tree
 abbrev pub if_live : Row → Option Row
@@ -40,7 +41,31 @@ names_at m ids = filter_map (name_at m) ids
 abbrev pub AreNamesOf : Items Row → IdList 0 → List Name → Type 0
 AreNamesOf m list names = (ids : Ids) → IsList sibling_links m list ids → names ≡ names_at m ids
 
--- a tick removes the node of the row that an Id names, if it is in the tree: it is due, and has no children
+-- the path of the row that an Id names
+abbrev pub path_at : Items Row → Id → Option Path
+path_at m id = option_map (λ (r : Row). r.path) (get m id)
+
+-- the paths of the rows that Ids name
+abbrev pub paths_at : Items Row → Ids → List Path
+paths_at m ids = filter_map (path_at m) ids
+
+-- these are the paths of the rows that Ids name, in their order
+pub record AreSorted (m : Items Row) (ids : Ids) (paths : List Path) : Type 0 where
+  pub moved : IsPermutation (paths_at m ids) paths
+  pub up : IsSorted path_cmp paths
+
+-- these are the Ids of an owner's list
+abbrev pub AreOwnedIds : Items Row → IdList 1 → Ids → Type 0
+AreOwnedIds m list found = (ids : Ids) → IsList fellow_links m list ids → found ≡ ids
+
+-- these are the paths of the rows of an owner's list, in their order; without a list there are none
+abbrev pub AreOwnedPaths : Items Row → Option (IdList 1) → List Path → Type 0
+AreOwnedPaths m None paths = paths ≡ []
+AreOwnedPaths m (Some list) paths =
+    (ids : Ids) → IsList fellow_links m list ids → AreSorted m ids paths
+
+-- a tick removes the node of the row that an Id names, if it is in the tree: it is due, and has no
+-- children
 abbrev pub is_stale_row : Items Row → ℕ → Id → Bool
 is_stale_row m tick id =
     option_map_or (λ (r : Row). is_due tick r.node && (r.children.len == 0)) (get m id) false

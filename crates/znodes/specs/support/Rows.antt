@@ -1,10 +1,11 @@
 -- The rows of the nodes, the lists in which they are, and what they represent.
-use Rattle.std.specs.Prelude.{◌≡◌, ℕ, Bool, true, false, [], ◌∷◌, List, Option, None, Some, if◌then◌else◌}
+use Rattle.std.specs.Prelude.{◌≡◌, ◌≤◌, ℕ, Bool, true, false, [], ◌∷◌, List, Option, None, Some, if◌then◌else◌}
 use Rattle.std.specs.Global.{Global}
 use Rattle.std.specs.Option.{option_map, option_map_or, option_and_then}
 use Rattle.std.specs.Ordering.{nat_cmp}
-use Rattle.std.specs.FinMap.{FinMap, get}
+use Rattle.std.specs.FinMap.{FinMap, get, len}
 use Rattle.zslots.specs.declared.id.Id.{Id}
+use Rattle.zslots.specs.declared.limits.TheConstants.{MAX_SLOTS}
 use Rattle.zslots.specs.declared.linked.Links.{Links}
 use Rattle.zslots.specs.declared.list.List.{List as IdList}
 use Rattle.zslots.specs.Ids.{id_cmp}
@@ -19,7 +20,9 @@ use Rattle.ztree.specs.Tree.{Name, Path, Nodes, parent_of}
 use Rattle.ztree.specs.Stale.{may_end}
 use Rattle.znodes.specs.declared.row.Row.{Row}
 use Rattle.znodes.specs.NodesView.{Taken}
+use Rattle.znodes.specs.declared.counts.Counts.{Counts}
 use Rattle.znodes.specs.support.OwnerLists.{OwnerLists, somebody}
+use Rattle.znodes.specs.support.Counting.{AreCounts}
 
 -- the index's key of a node
 abbrev pub Key : Type 0
@@ -114,13 +117,6 @@ NamesParents m ids =
     (id : Id) (r : Row) → get m id ≡ Some r → r.key ≡ None →
     r.parent ≡ option_and_then (get ids) (above r.path)
 
--- the invariant of all lists, and of the nodes above
-pub record IsThreaded (m : Items Row) (ids : IdsByPath) (owners : OwnerLists)
-    (timed : IdList 2) : Type 0 where
-  pub linked : IsLinked m ids owners
-  pub mortal : HasTimed m timed
-  pub parents : NamesParents m ids
-
 -- where a live row is
 abbrev pub live_path : Row → Option Path
 live_path r = if is_live r then Some r.path else None
@@ -145,3 +141,13 @@ held_of m = map_values taken_row m
 
 abbrev pub known_of : OwnerLists → FinMap nat_cmp (Unit {0})
 known_of owners = map_values (λ _. Some tt) owners
+
+-- the invariant: of all lists, of the nodes above, and of the counts. There are no more rows than
+-- slots can have
+pub record IsThreaded (m : Items Row) (ids : IdsByPath) (owners : OwnerLists) (timed : IdList 2)
+    (counts : Counts) : Type 0 where
+  pub linked : IsLinked m ids owners
+  pub mortal : HasTimed m timed
+  pub parents : NamesParents m ids
+  pub counted : AreCounts (nodes_of m ids) counts
+  pub few : len m ≤ MAX_SLOTS

@@ -2,7 +2,7 @@
 use Rattle.std.specs.Prelude.{◌≡◌, ◌≢◌, true, false, Bool, List, [], ℕ, ◌+◌, ◌*◌, ◌<◌, ◌≤◌, Some}
 use Rattle.ztree.specs.Room.{HasRoom}
 use Rattle.ztree.specs.Lawful.{AllNodes}
-use Rattle.ztree.specs.declared.limits.TheConstants.{MAX_NODES, ZXID_BOUND}
+use Rattle.ztree.specs.declared.limits.TheConstants.{MOST_NODES, ZXID_BOUND}
 use Rattle.zstore.specs.declared.limits.TheConstants.{ID_BOUND}
 use Rattle.zstore.specs.StoreView.{StoreView, Mark, Id, Ids, AreAt, path_of}
 use Rattle.std.specs.FinMap as finite
@@ -11,7 +11,7 @@ use Rattle.ztree.specs.Tree.{Path, has_node, children}
 use Rattle.ztree.specs.Sessions.{without_nodes}
 use Rattle.ztree.specs.Laws.{NoneTwice}
 use Rattle.std.specs.List.{AllByRecursion}
-use Rattle.zcalls.specs.declared.limits.TheConstants.{MAX_PARTS, MAX_RAISES}
+use Rattle.zcalls.specs.declared.limits.TheConstants.{MOST_PARTS, MAX_RAISES}
 use Rattle.zops.specs.declared.limits.TheConstants.{MAX_APPLIED}
 use Rattle.zcalls.specs.Bounds.{IsBounded, IsWithin}
 use Rattle.zcalls.specs.support.Alone.{ChangesNodesAlone}
@@ -26,7 +26,7 @@ pub record IsReadyForPart (store : StoreView) : Type 0 where
 -- between two calls: the tree's numbers are bounded, and there are Ids for a multi
 pub record IsSteady (store : StoreView) : Type 0 where
   pub bounded : IsBounded store.tree
-  pub given : store.given + MAX_PARTS < ID_BOUND
+  pub given : store.given + MOST_PARTS < ID_BOUND
 
 -- a change can be made: the next one has a number
 pub record IsReady (store : StoreView) : Type 0 where
@@ -36,7 +36,7 @@ pub record IsReady (store : StoreView) : Type 0 where
 -- a call leaves the tree bounded, and gives few Ids
 pub record StaysBounded (old new : StoreView) : Type 0 where
   pub bounded : IsBounded new.tree
-  pub given : new.given ≤ old.given + MAX_PARTS
+  pub given : new.given ≤ old.given + MOST_PARTS
 
 -- the tree is as it was, and every Id names what it named; some numbers of Ids may be used up
 abbrev pub IsAsItWas : StoreView → StoreView → Type 0
@@ -70,14 +70,14 @@ KeepsMark old new = (parts : ℕ) (m : Mark) → HasMark (parts + 1) m old → H
 -- what all parts of a multi leave, before the change is counted: nodes that were raised once a part at most
 pub record IsRun (old new : StoreView) : Type 0 where
   pub alone : ChangesNodesAlone old.tree new.tree
-  pub within : AllNodes (IsWithin (MAX_RAISES * old.tree.zxid + MAX_PARTS)) new.tree.nodes
+  pub within : AllNodes (IsWithin (MAX_RAISES * old.tree.zxid + MOST_PARTS)) new.tree.nodes
 
 -- the invariant of a machine: bounded numbers, few entries, and few Ids for each entry beside those
 -- of its first nodes. While it has memory, it has no node of a later change or tick
 pub record IsSound (store : StoreView) (applied : ℕ) (is_broken : Bool) : Type 0 where
   pub bounded : IsBounded store.tree
   pub applied_few : applied ≤ MAX_APPLIED
-  pub given_few : store.given ≤ MAX_PARTS * applied + MAX_NODES
+  pub given_few : store.given ≤ MOST_PARTS * applied + MOST_NODES
   pub dated : is_broken ≡ false → AllDated store.tree
 
 -- the invariant of a machine while it is restored: bounded numbers, few entries, one Id for each

@@ -5,7 +5,7 @@ use Rattle.std.specs.FinMap.{FinMap}
 use Rattle.ztree.specs.declared.node.Node.{Node}
 use Rattle.ztree.specs.Tree.{Tree, Nodes, Path, children}
 use Rattle.zstore.specs.StoreView.{StoreView, Id, AtPath}
-use Rattle.zcalls.specs.declared.limits.TheConstants.{MAX_PARTS}
+use Rattle.zcalls.specs.declared.limits.TheConstants.{MOST_PARTS}
 use Rattle.zcalls.specs.declared.call.Entry.{Entry}
 use Rattle.zcalls.specs.declared.call.Update.{Update}
 use Rattle.zcalls.specs.declared.call.Update.TheVariants as call
@@ -44,7 +44,7 @@ ReportsWhether test store id reported = AtPath store id (λ path. reported ≡ n
 abbrev pub is_parent : Nodes → Path → Bool
 is_parent nodes path = nat_lt 0 (length (children nodes path))
 
--- a multi has at most 64 parts
+-- a multi has at most 1,024 parts
 abbrev pub HasFewParts : Update → Type 0
-HasFewParts (call.Multi parts) = length parts ≤ MAX_PARTS
+HasFewParts (call.Multi parts) = length parts ≤ MOST_PARTS
 HasFewParts other = Unit {0}

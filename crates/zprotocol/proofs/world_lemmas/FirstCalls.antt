@@ -2,7 +2,6 @@
 -- asked and answered.
 use Rattle.std.proofs.Common.{◌≡◌, ℕ, [], ◌∷◌, inl, inr, refl, sym}
 use Rattle.ztree.specs.Tree.{opening_tree}
-use Rattle.ztree.proofs.Lawful.{lawful_opening}
 use Rattle.zcalls.specs.declared.call.Query.{Query as Question}
 use Rattle.zcalls.specs.declared.call.Call.{Call}
 use Rattle.zcalls.specs.declared.call.Call.TheVariants.{Query}
@@ -16,6 +15,7 @@ use Rattle.zprotocol.specs.world.History.{History, IsUpdate, IsAnswered, EndsBef
 use Rattle.zprotocol.specs.world.LegalOrder.{IsReplayed}
 use Rattle.zcalls.specs.PlainTree.{plain_tree}
 use Rattle.zprotocol.specs.world.PlainTree.{service_of, IsExplained}
+use Rattle.zprotocol.proofs.world_lemmas.FirstCallsFrom.{opening_can_start}
 
 -- the order of no calls explains silence
 pub silence : IsExplained []
@@ -27,7 +27,7 @@ silence = (
     answered = λ c n reply among. absurd among;
     unanswered = λ o among. absurd among;
     in_time = λ a b ends among. absurd among;
-    lawful = (lawful_opening, tt);
+    lawful = (opening_can_start.lawful, tt);
   },
 )
 
@@ -74,7 +74,7 @@ module _ (query : Question) where
       answered = replayed;
       unanswered = answered;
       in_time = λ a b ends among. absurd (nothing_ends a b ends);
-      lawful = (lawful_opening, (lawful_opening, tt));
+      lawful = (opening_can_start.lawful, (opening_can_start.lawful, tt));
     },
   )
     where

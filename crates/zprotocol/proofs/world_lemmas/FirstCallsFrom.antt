@@ -1,9 +1,11 @@
 -- A chain that begins with any tree explains the first histories: no one calls, or one query of the
 -- tree is answered.
-use Rattle.std.proofs.Common.{◌≡◌, ◌∙◌, ℕ, List, [], ◌∷◌, inl, inr, refl, sym, ap, subst}
+use Rattle.std.proofs.Common.{◌≡◌, ◌∙◌, ℕ, List, [], ◌∷◌, inl, inr, refl, sym, ap, subst, arith}
 use Rattle.std.specs.List.{AllByRecursion}
 use Rattle.std.specs.Prelude.{◌⊎◌}
-use Rattle.ztree.specs.Tree.{Tree, opening_tree}
+use Rattle.ztree.specs.Limits.{AreLimits, profile}
+use Rattle.ztree.specs.Tree.{Tree, opening_within, opening_tree}
+use Rattle.ztree.specs.declared.limits.TreeLimits.{TreeLimits}
 use Rattle.ztree.proofs.Lawful.{lawful_opening}
 use Rattle.zcalls.specs.declared.call.Query.{Query as Question}
 use Rattle.zcalls.specs.declared.call.Call.TheVariants.{Query}
@@ -22,9 +24,17 @@ use Rattle.zprotocol.specs.world.support.OrderRows.{query_of}
 use Rattle.zprotocol.proofs.world_lemmas.Among.{each_among}
 use Rattle.zprotocol.proofs.world_lemmas.OrderRows.{AtAnswer, begin_is_no_answer}
 
--- the initial tree can start a chain
+-- an initial tree can start a chain
+pub initial_can_start : (limits : TreeLimits) → AreLimits limits → CanStart (opening_within limits)
+initial_can_start limits allowed = record { lawful = lawful_opening limits allowed; granted = no_sessions limits.timeout }
+
+-- a tree can have the limits of the profile, so its initial tree can
+pub profile_allowed : AreLimits profile
+profile_allowed =
+    record { some_nodes = omega arith; few_nodes = omega arith; few_sessions = omega arith; least_timeout = omega arith; most_timeout = omega arith }
+
 pub opening_can_start : CanStart opening_tree
-opening_can_start = record { lawful = lawful_opening; granted = no_sessions }
+opening_can_start = initial_can_start profile profile_allowed
 
 module _ (t : Tree) (can : CanStart t) where
   -- the order of no calls explains silence

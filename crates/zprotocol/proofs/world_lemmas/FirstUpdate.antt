@@ -2,7 +2,7 @@
 use Rattle.std.proofs.Common.{◌≡◌, ℕ, List, [], ◌∷◌, inl, inr, refl, sym, ap, arith}
 use Rattle.std.specs.Prelude.{◌⊎◌}
 use Rattle.ztree.specs.Tree.{opening_tree}
-use Rattle.ztree.proofs.Lawful.{lawful_opening}
+use Rattle.ztree.specs.Limits.{profile}
 use Rattle.zcalls.specs.declared.call.Query.{Query as Question}
 use Rattle.zcalls.specs.declared.call.Update.{Update as Change}
 use Rattle.zcalls.specs.declared.call.Call.{Call}
@@ -20,6 +20,7 @@ use Rattle.zprotocol.specs.world.PlainTree.{service_of, IsExplained}
 use Rattle.zprotocol.specs.world.support.OrderRows.{update_is_first}
 use Rattle.zprotocol.proofs.world_lemmas.Among.{each_among}
 use Rattle.zprotocol.proofs.world_lemmas.OrderRows.{AtAnswer, begin_is_no_answer}
+use Rattle.zprotocol.proofs.world_lemmas.FirstCallsFrom.{profile_allowed, opening_can_start}
 
 -- equal answers have one number, and so have equal beginnings
 one_number : (c n c' n' : ℕ) (reply reply' : Reply) → Answer c n reply ≡ Answer c' n' reply' → n ≡ n'
@@ -75,6 +76,6 @@ module _ (update : Change) (query : Question) where
       unanswered = each_among (λ o. IsUpdate o.call ⊎ IsAnswered (update_is_first update query) o) order
           (inl tt, (inr (query_reply (step opening_tree 1 update).0 query, inr (inr (inr (inl refl)))), tt));
       in_time = in_time;
-      lawful = (lawful_opening, (trees_are_lawful ((1, update) ∷ []), (trees_are_lawful ((1, update) ∷ []), tt)));
+      lawful = (opening_can_start.lawful, (trees_are_lawful profile profile_allowed ((1, update) ∷ []), (trees_are_lawful profile profile_allowed ((1, update) ∷ []), tt)));
     },
   )

@@ -18,7 +18,7 @@ use Rattle.zprotocol.specs.world.Events.{happens, run}
 -- be granted
 pub record CanStart (t : Tree) : Type 0 where
   pub lawful : IsLawful t
-  pub granted : AllSessions (IsGranted t.zxid) t.sessions
+  pub granted : AllSessions (IsGranted t.limits.timeout t.zxid) t.sessions
 
 -- a history is linearizable over the plain tree that begins with this tree, and every tree on the
 -- way is lawful

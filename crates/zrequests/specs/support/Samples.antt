@@ -6,10 +6,18 @@ use Rattle.zjute.specs.declared.request.CreateRequest.{CreateRequest}
 use Rattle.zjute.specs.declared.request.CreateTtl.{CreateTtl}
 use Rattle.zjute.specs.declared.request.AtVersion.{AtVersion}
 use Rattle.zjute.specs.declared.request.SetDataRequest.{SetDataRequest}
-use Rattle.zjute.specs.declared.request.SetAcl.{SetAcl}
+use Rattle.zjute.specs.declared.request.SetAclRequest.{SetAclRequest}
 use Rattle.zjute.specs.declared.request.Look.{Look}
 use Rattle.zrequests.specs.declared.fault.Unasked.TheVariants.{Refused}
 use Rattle.zrequests.specs.Asking.{Meaning}
+use Rattle.zrequests.specs.Terms.{Terms, profile}
+
+-- the terms of the profile, and small ones, with a tick of 2,000 milliseconds
+abbrev pub terms : Terms
+terms = profile 2000
+
+abbrev pub small : Terms
+small = record { tick = 2000; bytes = 1; parts = 1 }
 
 -- refusals, one for each code
 abbrev pub bad : {A : Type 0} → Meaning A
@@ -48,7 +56,7 @@ at_version = record { path = text_a; version = negsuc 1 }
 abbrev pub set_a : SetDataRequest
 set_a = record { path = text_a; bytes = Some (7 ∷ []); version = negsuc 0 }
 
-abbrev pub set_acl_a : SetAcl
+abbrev pub set_acl_a : SetAclRequest
 set_acl_a = record { path = text_a; acls = Some (open_entry ∷ []); version = pos 0 }
 
 abbrev pub look_a : Look

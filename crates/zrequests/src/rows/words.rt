@@ -7,7 +7,7 @@ ghost use Rattle.zcalls.specs.declared.call.Expected.TheVariants.{Any, Exactly};
 ghost use Rattle.zrequests.specs.declared.limits.TheConstants.{NO_VERSION, ALL_PERMISSIONS, MAX_PATHS};
 ghost use Rattle.zrequests.specs.Asking.{path_in, data_in, version_in, has_open_acl, kind_in, ttl_in, timed_kind_in};
 ghost use Rattle.zrequests.specs.Timeouts.{ticks_asked, millis_reported};
-ghost use Rattle.zrequests.specs.support.Samples.{bad, unimplemented, open_entry};
+ghost use Rattle.zrequests.specs.support.Samples.{bad, unimplemented, open_entry, terms, small};
 
 /// Paths: null and invalid ones are refused.
 #[tactic(auto, unfolding(zpath::specs::Faults::fault_of))]
@@ -21,11 +21,13 @@ pub fn paths_of_requests()
     ensures unicode { path_in (Some (47 ∷ 195 ∷ 164 ∷ [])) ≡ bad }
 {}
 
-/// Data: a null buffer means no bytes.
+/// Data: a null buffer means no bytes. Small terms accept one byte.
 pub fn data_of_requests()
-    ensures null { data_in None ≡ Ok [] }
-    ensures none { data_in (Some []) ≡ Ok [] }
-    ensures bytes { data_in (Some (104 ∷ 105 ∷ [])) ≡ Ok (104 ∷ 105 ∷ []) }
+    ensures null { data_in terms None ≡ Ok [] }
+    ensures none { data_in terms (Some []) ≡ Ok [] }
+    ensures bytes { data_in terms (Some (104 ∷ 105 ∷ [])) ≡ Ok (104 ∷ 105 ∷ []) }
+    ensures fits { data_in small (Some (104 ∷ [])) ≡ Ok (104 ∷ []) }
+    ensures too_long { data_in small (Some (104 ∷ 105 ∷ [])) ≡ bad }
 {}
 
 /// Versions: -1 matches any, and no node has -2.
@@ -36,11 +38,13 @@ pub fn versions_of_requests()
     ensures none { version_in (negsuc 1) ≡ Exactly NO_VERSION }
 {}
 
-/// ACLs: only the open one is accepted.
+/// ACLs: only the open one is accepted, named once or more.
 pub fn acls_of_requests()
     ensures open { has_open_acl (Some (open_entry ∷ [])) ≡ true }
     ensures nobody { has_open_acl (Some []) ≡ false }
-    ensures twice { has_open_acl (Some (open_entry ∷ open_entry ∷ [])) ≡ false }
+    ensures twice { has_open_acl (Some (open_entry ∷ open_entry ∷ [])) ≡ true }
+    ensures another { has_open_acl
+        (Some (open_entry ∷ record open_entry { perms = pos 1 } ∷ [])) ≡ false }
     ensures reads { has_open_acl (Some (record open_entry { perms = pos 1 } ∷ [])) ≡ false }
     ensures digest { has_open_acl
         (Some (record open_entry { scheme = Some (codes "digest") } ∷ [])) ≡ false }

@@ -2,20 +2,24 @@
 use Rattle.std.specs.Prelude.{List, ℕ, [], ◌∷◌, pos, codes, Some, false}
 use Rattle.ztree.specs.support.Samples.{at_a_b}
 use Rattle.zcalls.specs.declared.call.Create.{Create}
+use Rattle.zcalls.specs.declared.call.Expected.TheVariants.{Any}
+use Rattle.zcalls.specs.declared.call.SetAcl.{SetAcl}
 use Rattle.zcalls.specs.declared.call.Lifetime.TheVariants.{Ephemeral, WithTtl, Container}
 use Rattle.zcalls.specs.Part.{named, sequential}
 use Rattle.zjute.specs.declared.stat.StatRecord.{StatRecord as ReportedStat}
 use Rattle.zjute.specs.declared.request.CreateRequest.{CreateRequest as AskedCreate}
 use Rattle.zjute.specs.declared.request.AtVersion.{AtVersion}
-use Rattle.zjute.specs.declared.request.SetAcl.{SetAcl}
+use Rattle.zjute.specs.declared.request.SetAclRequest.{SetAclRequest}
 use Rattle.zjute.specs.declared.request.Look.{Look}
+use Rattle.zrequests.specs.Terms.{profile}
 use Rattle.zresponses.specs.Answers.{open_acls}
 use Rattle.zresponses.specs.declared.clock.Clock.{Clock}
 use Rattle.zresponses.specs.declared.clock.Now.{Now}
 
--- a service that began at 1,000,000 milliseconds, with ticks of 2,000 and no base of zxids
+-- a service of the profile that began at 1,000,000 milliseconds, with ticks of 2,000 and no base of
+-- zxids
 abbrev pub clock : Clock
-clock = record { tick = 2000; started = 1000000; base = 0 }
+clock = record { terms = profile 2000; started = 1000000; base = 0 }
 
 -- after change 20, at tick 21
 abbrev pub now : Now
@@ -30,7 +34,7 @@ reported_stat = record {
   mtime = pos 1010000;
   version = pos 6;
   cversion = pos 8;
-  aversion = pos 0;
+  aversion = pos 13;
   ephemeral_owner = pos 9;
   data_length = pos 2;
   num_children = pos 11;
@@ -66,6 +70,10 @@ reported_of_b = record {
 abbrev pub reported_of_timed : ReportedStat
 reported_of_timed = record reported_of_b { ephemeral_owner = pos 0; data_length = pos 0 }
 
+-- a write of the ACL of /a/b, at any version
+abbrev pub to_list_b : SetAcl
+to_list_b = record { path = at_a_b; version = Any }
+
 -- the text of /a/b, and requests for it
 abbrev pub text_a_b : List ℕ
 text_a_b = codes "/a/b"
@@ -76,7 +84,7 @@ asked_b = record { path = Some text_a_b; bytes = Some []; acls = Some []; flags 
 abbrev pub at_b : AtVersion
 at_b = record { path = Some text_a_b; version = pos 7 }
 
-abbrev pub set_acl_b : SetAcl
+abbrev pub set_acl_b : SetAclRequest
 set_acl_b = record { path = Some text_a_b; acls = Some open_acls; version = pos 0 }
 
 abbrev pub look_b : Look

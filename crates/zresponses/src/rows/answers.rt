@@ -1,6 +1,6 @@
 //! Answers to requests.
 
-ghost use Rattle.std.specs.Prelude.{◌≡◌, [], ◌∷◌, pos, codes, None, Some};
+ghost use Rattle.std.specs.Prelude.{◌≡◌, [], ◌∷◌, codes, None, Some};
 ghost use Rattle.ztree.specs.support.Samples.{at_a, at_a_b, some_stat};
 ghost use Rattle.zcalls.specs.declared.call.Call.TheVariants as call;
 ghost use Rattle.zcalls.specs.declared.call.Query.TheVariants.{Exists, GetChildren};
@@ -12,7 +12,8 @@ ghost use Rattle.zjute.specs.declared.reply.Body.TheVariants as body;
 ghost use Rattle.zjute.specs.declared.request.Asked.TheVariants as asked;
 ghost use Rattle.zresponses.specs.Answers.{done, failed, answer_of, children_answer, open_acls};
 ghost use Rattle.zresponses.specs.Answering.{answer_in};
-ghost use Rattle.zresponses.specs.support.Samples.{clock, now, reported_stat, create_b, reported_of_b, text_a_b, asked_b, look_b, set_acl_b};
+ghost use Rattle.zresponses.specs.support.Samples.{clock, now, reported_stat, create_b, reported_of_b, text_a_b, asked_b, look_b};
+ghost use Rattle.zresponses.specs.support.Samples.{set_acl_b, to_list_b};
 
 /// Answers from one reply.
 pub fn answers_by_one_reply()
@@ -46,13 +47,15 @@ pub fn answers_with_a_stat()
         (call.Query (GetChildren at_a_b) ∷ call.Query (Exists at_a_b) ∷ [])
         (reply.Children at_a ∷ reply.Exists some_stat ∷ [])
         ≡ done (body.NamesStat at_a reported_stat) }
-    ensures set_acl { answer_in clock now (asked.SetAcl set_acl_b) (call.Query (Exists at_a_b) ∷ [])
-        (reply.Exists some_stat ∷ []) ≡ failed code.Unimplemented }
-    ensures set_acl_version { answer_in clock now
-        (asked.SetAcl (record set_acl_b { version = pos 1 })) (call.Query (Exists at_a_b) ∷ []) (reply.Exists some_stat ∷ [])
+    ensures set_acl { answer_in clock now (asked.SetAcl set_acl_b)
+        (call.Update (act.SetAcl to_list_b) ∷ []) (reply.Set some_stat ∷ [])
+        ≡ done (body.Stat reported_stat) }
+    ensures set_acl_version { answer_in clock now (asked.SetAcl set_acl_b)
+        (call.Update (act.SetAcl to_list_b) ∷ []) (reply.Refused BadVersion ∷ [])
         ≡ failed code.BadVersion }
     ensures set_no_acl { answer_in clock now (asked.SetAcl set_acl_b)
-        (call.Query (Exists at_a_b) ∷ []) (reply.Refused NoNode ∷ []) ≡ failed code.NoNode }
+        (call.Update (act.SetAcl to_list_b) ∷ []) (reply.Refused NoNode ∷ [])
+        ≡ failed code.NoNode }
     ensures no_names { children_answer clock (reply.Refused NoNode) (reply.Refused NoNode)
         ≡ failed code.NoNode }
     ensures acl { answer_in clock now (asked.GetAcl (Some text_a_b))

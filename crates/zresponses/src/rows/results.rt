@@ -22,9 +22,9 @@ pub fn refused_multis()
     ensures third { refused_results 4 3 code.BadVersion ≡ result_of.Error code.Ok
         ∷ result_of.Error code.Ok ∷ result_of.Error code.BadVersion
         ∷ result_of.Error code.RuntimeInconsistency ∷ [] }
-    ensures at_once { part_code 2000 (asked.Create asked_b ∷ asked.Create asked_b ∷ []) 2
+    ensures at_once { part_code clock.terms (asked.Create asked_b ∷ asked.Create asked_b ∷ []) 2
         BadVersion ≡ code.InvalidAcl }
-    ensures by_the_tree { part_code 2000 (asked.Check at_b ∷ asked.Create asked_b ∷ []) 1
+    ensures by_the_tree { part_code clock.terms (asked.Check at_b ∷ asked.Create asked_b ∷ []) 1
         BadVersion ≡ code.BadVersion }
     ensures last { refused_results 2 2 code.NoNode
         ≡ result_of.Error code.Ok ∷ result_of.Error code.NoNode ∷ [] }

@@ -33,7 +33,7 @@ create_root = Update (Create (record { path = []; kind = named Persistent; bytes
 -- the stat of a node with two bytes that the first change made
 abbrev pub first_stat : Stat
 first_stat =
-    record { czxid = 1; mzxid = 1; pzxid = 1; ctime = 0; mtime = 0; version = 0; cversion = 0; owner = 0; length = 2; children = 0 }
+    record { czxid = 1; mzxid = 1; pzxid = 1; ctime = 0; mtime = 0; version = 0; cversion = 0; aversion = 0; owner = 0; length = 2; children = 0 }
 
 -- replies: of a multi of three parts and of one, and of a query that finds two bytes and none
 abbrev pub three_parts : Reply

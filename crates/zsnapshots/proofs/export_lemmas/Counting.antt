@@ -11,7 +11,7 @@ use Rattle.std.proofs.lemmas.List.Concat.{flat_map-append}
 use Rattle.std.proofs.lemmas.List.Sums.{sum_by-cons}
 use Rattle.std.specs.declared.cmp.Ordering.{Ordering}
 use Rattle.zpath.specs.Grammar.{path_cmp}
-use Rattle.ztree.specs.declared.limits.TheConstants.{MAX_DATA, MAX_NODES}
+use Rattle.ztree.specs.declared.limits.TheConstants.{MOST_DATA, MOST_NODES}
 use Rattle.ztree.specs.declared.node.Node.{Node}
 use Rattle.ztree.specs.Tree.{Nodes, Path, Tree}
 use Rattle.ztree.specs.Lawful.{AllNodes}
@@ -175,8 +175,8 @@ pub record IsCounting (t : Tree) (c : TreeCounts) (paths : List Path) : Type 0 w
   pub rows : List (Path × Node)
   pub left : AreLeft t.nodes paths rows
   pub done : ℕ
-  pub few : done + length rows ≤ MAX_NODES
-  pub bytes_few : c.bytes ≤ done * MAX_DATA
+  pub few : done + length rows ≤ MOST_NODES
+  pub bytes_few : c.bytes ≤ done * MOST_DATA
   pub ephemerals_few : c.ephemerals ≤ done
   pub counters_few : c.counters ≤ done
   pub bytes : c.bytes + sum_by bytes_of rows ≡ (counts_of t).bytes
@@ -188,7 +188,7 @@ pub record IsCounting (t : Tree) (c : TreeCounts) (paths : List Path) : Type 0 w
 pub len_keys : {K X : Type 0} {R : K → K → Ordering} (m : FinMap R X) (ks : List K) → ks ≡ keys m → length ks ≡ finite.len m
 len_keys {K = K} {X = X} m ks is = ap (λ (l : List K). length l) is ∙ length-map (entries m) (λ (e : K × X). e.0) ∙ sym (len-entries m)
 
-pub counting_all : (t : Tree) (c : TreeCounts) (paths : List Path) → paths ≡ keys t.nodes → finite.len t.nodes ≤ MAX_NODES
+pub counting_all : (t : Tree) (c : TreeCounts) (paths : List Path) → paths ≡ keys t.nodes → finite.len t.nodes ≤ MOST_NODES
     → c ≡ record (counts_of t) { bytes = 0; ephemerals = 0; counters = 0 } → IsCounting t c paths
 counting_all t c paths named few is = subst (λ (d : TreeCounts). IsCounting t d paths) (sym is) (record {
   rows = entries t.nodes;
@@ -227,13 +227,13 @@ count_few : (b : Bool) (before done : ℕ) → before ≤ done → before + cond
 count_few true before done few = omega (arith, few)
 count_few false before done few = omega (arith, few)
 
-pub counting_next : (t : Tree) (c : TreeCounts) (path : Path) (paths : List Path) (n : Node) → get t.nodes path ≡ Some n → length n.bytes ≤ MAX_DATA
+pub counting_next : (t : Tree) (c : TreeCounts) (path : Path) (paths : List Path) (n : Node) → get t.nodes path ≡ Some n → length n.bytes ≤ MOST_DATA
     → IsCounting t c (path ∷ paths) → IsCounting t (counted n c) paths
 counting_next t c path paths n got short counting =
     let first = first_of t.nodes path paths counting.rows counting.left in
     let same = same_some first.n n (sym first.at ∙ got) in
     let is : counting.rows ≡ (path, n) ∷ first.more = first.is ∙ ap (λ m. (path, m) ∷ first.more) same in
-    let few : counting.done + length ((path, n) ∷ first.more) ≤ MAX_NODES = subst (λ rows. counting.done + length rows ≤ MAX_NODES) is counting.few in
+    let few : counting.done + length ((path, n) ∷ first.more) ≤ MOST_NODES = subst (λ rows. counting.done + length rows ≤ MOST_NODES) is counting.few in
     let bytes_few = counting.bytes_few in
     let bytes : c.bytes + sum_by bytes_of ((path, n) ∷ first.more)
     ≡ (counts_of t).bytes = subst (λ rows. c.bytes + sum_by bytes_of rows ≡ (counts_of t).bytes) is counting.bytes in

@@ -147,7 +147,7 @@ read_set line path bytes p d formed words no_fault names is_data = rw (formed, w
 word_one : IsWord (codes "1")
 word_one = record { some = omega arith; marks = ((omega arith, omega arith), tt) }
 
-module _ (path : Path) (n : Node) (is : IsPath path) (within : IsWithinLimits n) where
+module _ (path : Path) (n : Node) (is : IsPath path) (within : IsWithinLimits n) (short : length n.bytes ≤ MAX_DATA) where
   abbrev create_words : List Word
   create_words = codes "create" ∷ text_of path ∷ kind_text n.term ∷ data_text n.bytes ∷ []
 
@@ -171,7 +171,7 @@ module _ (path : Path) (n : Node) (is : IsPath path) (within : IsWithinLimits n)
       let all = length-spaced (codes "1") create_words in
       let of_path = is.short in
       let of_kind = kind_length n.term within.ttl in
-      let of_data = data_length n.bytes within.short in
+      let of_data = data_length n.bytes short in
       omega (arith, all, of_path, of_kind, of_data)
 
   create_is : create_line path n ≡ spaced (codes "1") create_words
@@ -183,7 +183,7 @@ module _ (path : Path) (n : Node) (is : IsPath path) (within : IsWithinLimits n)
   create_read = ap line_of create_is ∙ read_create (spaced (codes "1") create_words) (text_of path) (kind_text n.term)
       (data_text n.bytes) path (kind_for n.term) n.bytes
       (well_formed (codes "1") create_words create_are create_short) (words_of-spaced (codes "1") create_words create_are)
-      (kind_of-text n.term within.ttl) (text_has_no_fault path is) (names_of-text_of path is) (data_of-text n.bytes within.bytes within.short)
+      (kind_of-text n.term within.ttl) (text_has_no_fault path is) (names_of-text_of path is) (data_of-text n.bytes within.bytes short)
 
 module _ (bytes : List ℕ) (are_bytes : IsBytes bytes) (short : length bytes ≤ MAX_DATA) where
   abbrev set_words : List Word

@@ -18,6 +18,8 @@ use Rattle.zpath.specs.declared.limits.TheConstants.{MAX_NAME_LEN, MAX_TEXT_LEN}
 use Rattle.zpath.proofs.First.{first_that_holds-none}
 use Rattle.zpath.proofs.NameTests.{not_above}
 use Rattle.ztree.specs.declared.limits.TheConstants.{MAX_NODES, ZXID_BOUND}
+use Rattle.ztree.specs.declared.limits.TreeLimits.{TreeLimits}
+use Rattle.ztree.specs.Limits.{profile}
 use Rattle.ztree.specs.declared.term.Term.{Term}
 use Rattle.ztree.specs.declared.term.Term.TheVariants.{Unlimited, Timed, Container}
 use Rattle.ztree.specs.declared.node.Node.{Node}
@@ -40,7 +42,7 @@ use Rattle.zcalls.specs.Step.{step}
 use Rattle.zscript_text.specs.Line.{line_of}
 use Rattle.zops.proofs.Creating.{created-done}
 use Rattle.zsnapshots.specs.export.Export.{create_line, export_lines, lines_for, root_lines, set_line}
-use Rattle.zsnapshots.specs.export.Laws.{after_line, after_lines, said_of, ExportsMakeNoEphemerals, ExportsMakeTheirTree, HasLines, IsWithinLimits, said_if}
+use Rattle.zsnapshots.specs.export.Laws.{after_line, after_lines, said_of, ExportsMakeNoEphemerals, ExportsMakeTheirTree, FitsScript, HasLines, IsWithinLimits, said_if}
 use Rattle.zsnapshots.proofs.export_lemmas.Data.{nothing}
 use Rattle.zsnapshots.proofs.export_lemmas.Lines.{create_read, lifetime_for, set_read}
 use Rattle.zsnapshots.proofs.export_lemmas.Shown.{Mirrors, kept, kept_there, len-changed, made_unowned, mirrors_more, mirrors_owned}
@@ -94,7 +96,7 @@ record CanCome (u : Tree) (path : Path) : Type 0 where
   persistent : node_has is_owned u.nodes (parent_of path) ≡ false
   fits : is_over path ≡ false
   free : has_node u.nodes path ≡ false
-  few : nat_le MAX_NODES (finite.len u.nodes) ≡ false
+  few : nat_le u.limits.nodes (finite.len u.nodes) ≡ false
   young : nat_le (ZXID_BOUND - 1) u.zxid ≡ false
 
 module _ (u : Tree) (path : Path) (bytes : List ℕ) (term : Term) (l : Lifetime) (plain : IsPlain l term) where
@@ -119,8 +121,9 @@ record IsMade (now : Nodes) (u : Tree) : Type 0 where
   mirrors : Mirrors now u.nodes
   few : finite.len u.nodes ≤ finite.len now
   young : u.zxid ≤ finite.len now
+  within : u.limits ≡ profile
 
-module _ (t : Tree) (has : HasLines t) where
+module _ (t : Tree) (has : HasLines t) (fits_script : FitsScript t) where
   abbrev nodes_left : Nodes → List (Path × Node) → Type 0
   nodes_left = Left paths_total same_path t.nodes
 
@@ -138,7 +141,7 @@ module _ (t : Tree) (has : HasLines t) where
     fewer : finite.len now + 1 ≤ MAX_NODES
     fewer =
         let all = left_fewer paths_total same_path t.nodes now (path, n) rest left in
-        let few = has.lawful.few_nodes in
+        let few = fits_script.few in
         omega (arith, all, few)
 
     -- an ephemeral node leaves the tree as it is
@@ -147,6 +150,7 @@ module _ (t : Tree) (has : HasLines t) where
       mirrors = mirrors_owned now u.nodes path n owned free_now made.mirrors;
       few = let more = longer in let few = made.few in omega (arith, more, few);
       young = let more = longer in let young = made.young in omega (arith, more, young);
+      within = made.within;
     }
 
     module _ (below : path ≢ []) (root : is_root path ≡ false) (nobodys : is_owned n ≡ false) where
@@ -171,7 +175,11 @@ module _ (t : Tree) (has : HasLines t) where
         persistent = above_unowned;
         fits = not_over path (has.paths path (is_there _ n is_there_now));
         free = ap is_some (not_shown (finite.get u.nodes path) (made.mirrors path ∙ ap kept free_now));
-        few = let most = fewer in let fewest = made.few in under MAX_NODES (finite.len u.nodes) (omega (arith, most, fewest));
+        few =
+            let most = fewer in
+            let fewest = made.few in
+            ap (λ (l : TreeLimits). nat_le l.nodes (finite.len u.nodes)) made.within
+            ∙ under MAX_NODES (finite.len u.nodes) (omega (arith, most, fewest));
         young = let most = fewer in let early = made.young in under (ZXID_BOUND - 1) u.zxid (omega (arith, most, early));
       }
 
@@ -179,7 +187,7 @@ module _ (t : Tree) (has : HasLines t) where
       comes =
           let is = has.paths path (is_there _ n is_there_now) in
           let within = has.within path n is_there_now in
-          ap (after_line u) (create_read path n is within) ∙ step_create u path n.bytes n.term (lifetime_for n.term) (plain_lifetime n.term) can_come
+          ap (after_line u) (create_read path n is within (fits_script.short path n is_there_now)) ∙ step_create u path n.bytes n.term (lifetime_for n.term) (plain_lifetime n.term) can_come
 
       new_shown : shown_of (new_node n.bytes 0 n.term (u.zxid + 1) u.time) ≡ (0, said_of n)
       new_shown = refl
@@ -197,6 +205,7 @@ module _ (t : Tree) (has : HasLines t) where
                 len-changed (finite.insert u.nodes path new) (parent_of path) raised (finite.len (finite.insert now path n))
                 (len-more u.nodes path new (finite.len (finite.insert now path n)) (omega (arith, more, few)));
             young = let more = longer in let young = made.young in omega (arith, more, young);
+            within = made.within;
           }
 
       made_more : IsMade (finite.insert now path n) (after_line u (line_of (create_line path n)))
@@ -277,6 +286,7 @@ module _ (t : Tree) (has : HasLines t) where
         (λ q other. get-empty path_cmp q);
     few = let a = len_first in let b = len_opening in omega (arith, a, b);
     young = let a = len_first in omega (arith, a);
+    within = refl;
   }
 
   abbrev root_set : Node
@@ -297,12 +307,13 @@ module _ (t : Tree) (has : HasLines t) where
         let b = len_opening in
         len-insert-there paths_total same_path opening_tree.nodes [] root_set no_data (finite.len first) opening_root (omega (arith, a, b));
     young = let a = len_first in omega (arith, a);
+    within = refl;
   }
 
   set_comes : after_line opening_tree (line_of (set_line own.root.bytes)) ≡ with_root
   set_comes =
       let within = has.within [] own.root root_is in
-      ap (after_line opening_tree) (set_read own.root.bytes within.bytes within.short) ∙ set_done
+      ap (after_line opening_tree) (set_read own.root.bytes within.bytes (fits_script.short [] own.root root_is)) ∙ set_done
 
   made_root : IsMade first (after_lines opening_tree (root_lines own.root.bytes))
   made_root = by (is_empty own.root.bytes) refl
@@ -320,11 +331,11 @@ module _ (t : Tree) (has : HasLines t) where
       (subst (IsMade t.nodes) (sym (after_lines-append opening_tree (root_lines own.root.bytes) (flat_map lines_for own.rows))) made)
 
 pub exports_make_their_tree : ExportsMakeTheirTree
-exports_make_their_tree t has path =
+exports_make_their_tree t has fits path =
     let u = after_lines opening_tree (export_lines t) in
-    same_said (finite.get u.nodes path) (finite.get t.nodes path) ((all_made t has).mirrors path)
+    same_said (finite.get u.nodes path) (finite.get t.nodes path) ((all_made t has fits).mirrors path)
 
 pub exports_make_no_ephemerals : ExportsMakeNoEphemerals
-exports_make_no_ephemerals t has path n at =
+exports_make_no_ephemerals t has fits path n at =
     let u = after_lines opening_tree (export_lines t) in
-    made_unowned (finite.get u.nodes path) (finite.get t.nodes path) n ((all_made t has).mirrors path) at
+    made_unowned (finite.get u.nodes path) (finite.get t.nodes path) n ((all_made t has fits).mirrors path) at

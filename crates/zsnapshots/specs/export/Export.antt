@@ -1,5 +1,6 @@
 -- A tree as a script: the lines that make it again, as far as lines can say it. The lines are those
--- of `zscript_text`. This is the project's profile.
+-- of `zscript_text`. No line says the limits of the tree, or how often an access control list was
+-- written. This is the project's profile.
 use Rattle.std.specs.Prelude.{ℕ, List, [], ◌∷◌, ◌++◌, codes, if◌then◌else◌}
 use Rattle.std.specs.Fmt.{decimal}
 use Rattle.std.specs.List.{flat_map}

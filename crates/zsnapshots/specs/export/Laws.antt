@@ -1,8 +1,9 @@
 -- Laws of the definitions. The functions of `src/laws.rt` promise them.
 use Rattle.std.specs.Prelude.{◌≡◌, ◌≤◌, ℕ, List, [], ◌∷◌, length, Option, None, Some, Ok, if◌then◌else◌}
+use Rattle.std.specs.FinMap as finite
 use Rattle.std.specs.FinMap.{get}
 use Rattle.base64.specs.GeneralPurpose.{IsBytes}
-use Rattle.ztree.specs.declared.limits.TheConstants.{MAX_DATA}
+use Rattle.ztree.specs.declared.limits.TheConstants.{MAX_DATA, MAX_NODES, MOST_DATA}
 use Rattle.ztree.specs.declared.term.Term.{Term}
 use Rattle.ztree.specs.declared.node.Node.{Node}
 use Rattle.ztree.specs.Tree.{Path, Tree, opening_tree}
@@ -37,8 +38,9 @@ after_lines t (line ∷ lines) = after_lines (after_line t (line_of line)) lines
 
 -- ---- what lines say
 
--- What lines can say of a node: its data and its term. They don't say that a container had
--- children, so one that is empty stays until it has had some again.
+-- What lines can say of a node: its data and its term. They say nothing of its versions, nor how
+-- often its access control list was written. They don't say that a container had children, so one
+-- that is empty stays until it has had some again.
 pub record Said : Type 0 where
   pub bytes : List ℕ
   pub term : Term
@@ -51,10 +53,10 @@ abbrev pub said_if : Option Node → Option Said
 said_if None = None
 said_if (Some n) = if is_owned n then None else Some (said_of n)
 
--- a node within the limits of its types: data of at most `MAX_DATA` bytes, and a TTL, if it has
+-- a node within the limits of its types: data of at most `MOST_DATA` bytes, and a TTL, if it has
 -- one, from 1 to `MAX_TTL`
 pub record IsWithinLimits (n : Node) : Type 0 where
-  pub short : length n.bytes ≤ MAX_DATA
+  pub short : length n.bytes ≤ MOST_DATA
   pub bytes : IsBytes n.bytes
   pub ttl : HasValidTtl n.term
 
@@ -64,13 +66,19 @@ pub record HasLines (t : Tree) : Type 0 where
   pub paths : HasPaths t.nodes
   pub within : AllNodes IsWithinLimits t.nodes
 
--- The lines of a tree, played from the initial tree on, make a tree that has the same nodes but
--- those that a session owns. Each has the same data and the same term.
+-- A tree within the limits of a script, which are those of the profile: at most `MAX_NODES` nodes,
+-- and data of at most `MAX_DATA` bytes. No line says the limits of a tree.
+pub record FitsScript (t : Tree) : Type 0 where
+  pub few : finite.len t.nodes ≤ MAX_NODES
+  pub short : AllNodes (λ n. length n.bytes ≤ MAX_DATA) t.nodes
+
+-- The lines of a tree that fits a script, played from the initial tree on, make a tree that has the
+-- same nodes but those that a session owns. Each has the same data and the same term.
 abbrev pub ExportsMakeTheirTree : Type 0
 ExportsMakeTheirTree =
-    (t : Tree) → HasLines t → (path : Path)
+    (t : Tree) → HasLines t → FitsScript t → (path : Path)
     → said_if (get (after_lines opening_tree (export_lines t)).nodes path) ≡ said_if (get t.nodes path)
 
 -- And no session owns a node of it.
 abbrev pub ExportsMakeNoEphemerals : Type 0
-ExportsMakeNoEphemerals = (t : Tree) → HasLines t → AllNodes (λ n. n.owner ≡ 0) (after_lines opening_tree (export_lines t)).nodes
+ExportsMakeNoEphemerals = (t : Tree) → HasLines t → FitsScript t → AllNodes (λ n. n.owner ≡ 0) (after_lines opening_tree (export_lines t)).nodes

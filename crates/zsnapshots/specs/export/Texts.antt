@@ -8,8 +8,9 @@ use Rattle.zsnapshots.specs.declared.export.stat.FolderStat.{FolderStat}
 unfoldable pub around : List ℕ → ℕ → List ℕ → List ℕ
 around front n back = front ++ (decimal n ++ back)
 
--- What an export leaves out, since no line makes it. A later sequential create may find that the
--- name from its counter is taken.
+-- What an export leaves out, since no line makes it. The versions are those of data, of children
+-- and of access control lists. A later sequential create may find that the name from its counter is
+-- taken.
 unfoldable pub left_out_text : TreeCounts → List ℕ
 left_out_text c =
     around (codes "zk: export: ephemeral nodes left out: ") c.ephemerals (codes "\n")

@@ -40,6 +40,7 @@ pub record IsReading (h : Header) (s : MachineState) (sessions nodes replies : �
   pub last : s.applied ≡ h.last
   pub time : s.service.plain.time ≡ h.time
   pub zxid : s.service.plain.zxid ≡ h.zxid
+  pub limits : s.service.plain.limits ≡ h.limits
   pub dated : AllDated s.service.plain
   pub root : HasRoot s
   pub sessions_left : length (sessions_of s) + sessions ≡ h.sessions
@@ -55,5 +56,5 @@ pub record IsReading (h : Header) (s : MachineState) (sessions nodes replies : �
 pub record HasBegun (h : Header) (path : Path) (s : MachineState) : Type 0 where
   pub at_root : path ≡ []
   pub node : Node
-  pub can : CanBegin node h.time h.zxid h.last
-  pub state : s ≡ rooted_machine node h.time h.zxid h.last
+  pub can : CanBegin node h.time h.zxid h.last h.limits
+  pub state : s ≡ rooted_machine node h.time h.zxid h.last h.limits

@@ -9,15 +9,24 @@ use Rattle.zcalls.specs.declared.reply.Reply.TheVariants.{Deleted}
 use Rattle.zsnapshots.specs.declared.header.Header.{Header}
 use Rattle.zsnapshots.specs.Rows.{kept_of}
 
--- entry 5 was the last, at tick 9 and zxid 12; a session, two nodes and a reply follow
+-- Entry 5 was the last, at tick 9 and zxid 12. The tree has at most 6 nodes, 7 sessions and a
+-- timeout of 8. A session, two nodes and a reply follow.
 abbrev pub header : Header
-header = record { last = 5; time = 9; zxid = 12; sessions = 1; nodes = 2; replies = 1 }
+header = record {
+  last = 5;
+  time = 9;
+  zxid = 12;
+  limits = record { nodes = 6; sessions = 7; timeout = 8 };
+  sessions = 1;
+  nodes = 2;
+  replies = 1;
+}
 
 -- session 3 of client 2
 abbrev pub session : ℕ × Session
 session = (3, record { client = 2; timeout = 10; deadline = 19 })
 
--- the node /a, with the numbers from 1 to 10
+-- the node /a, with the numbers from 1 to 11
 abbrev pub node : Path × Node
 node = (
   (97 ∷ []) ∷ [],
@@ -30,9 +39,10 @@ node = (
     mtime = 5;
     version = 6;
     cversion = 7;
-    owner = 8;
-    seq = 9;
-    term = Timed 10;
+    aversion = 8;
+    owner = 9;
+    seq = 10;
+    term = Timed 11;
   },
 )
 

@@ -32,7 +32,7 @@ pub fn write_export<K: Sink>(
         (export_text machine.now.state.service.plain) }
     ensures failed { IfErr result (λ fault.
         fault ≡ Write → Failed (Between K.failed sink.old sink.new)) }
-    // So the lines make the tree again (`laws`).
+    // So the lines make the tree again, if it fits a script (`laws`).
     ensures has_lines { OnOk result (HasLines machine.now.state.service.plain) }
 {
     machine.keeps_lawful();

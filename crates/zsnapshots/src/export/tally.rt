@@ -1,7 +1,7 @@
 //! The counts of a tree.
 
 ghost use Rattle.std.specs.Prelude.{◌≡◌, ◌≤◌, false, length, IfOk};
-ghost use Rattle.ztree.specs.declared.limits.TheConstants.{MAX_DATA};
+ghost use Rattle.ztree.specs.declared.limits.TheConstants.{MOST_DATA};
 ghost use Rattle.zsnapshots.specs.export.Counts.{counts_of};
 ghost use Rattle.zsnapshots.specs.export.support.Counting.{counted, HasRoom};
 
@@ -57,7 +57,7 @@ pub fn counts(machine: &Machine) -> Result<TreeCounts, Memory>
 fn add(counts: &mut TreeCounts, node: &Node)
     requires { HasRoom counts.old }
     ensures counted { counts.new ≡ counted node.now counts.old }
-    ensures short { length node.now.bytes ≤ MAX_DATA }
+    ensures short { length node.now.bytes ≤ MOST_DATA }
 {
     counts.bytes += node.bytes.as_slice().len() as u64;
     if node.owner != 0 {

@@ -8,6 +8,7 @@ use Rattle.std.specs.Cmp.{nat_cmp_total, unsigned_Decides}
 use Rattle.std.specs.FinMap as finite
 use Rattle.std.specs.FinMap.{nat_cmp-IsAntisymmetric, get-insert, get-remove}
 use Rattle.zslots.specs.declared.id.Id.{Id}
+use Rattle.ztree.specs.declared.limits.TreeLimits.{TreeLimits}
 use Rattle.ztree.specs.declared.node.Node.{Node}
 use Rattle.ztree.specs.declared.session.Session.{Session}
 use Rattle.ztree.specs.Tree.{Path, Nodes, Sessions, ephemerals, with_change_at}
@@ -81,23 +82,23 @@ module _ (owners : Owners) (sessions : Sessions) (id : ℕ) (same : AreOwners ow
       by None found = same
       by (Some x) found = owners_written x (renewed_session time x) found
 
-module _ (nodes : Nodes) (places : Places) (sessions : Sessions) (time zxid : ℕ)
-    (kept : IsKept nodes places sessions time zxid) where
+module _ (nodes : Nodes) (places : Places) (sessions : Sessions) (time zxid : ℕ) (limits : TreeLimits)
+    (kept : IsKept nodes places sessions time zxid limits) where
   pub kept_touched : (id : ℕ) → ((s : Session) → finite.get sessions id ≡ Some s → 0 < s.timeout) →
-      IsKept nodes places (with_renewed_session (tree_of nodes sessions time zxid) id).sessions time
-      zxid
+      IsKept nodes places (with_renewed_session (tree_of nodes sessions time zxid limits) id).sessions time
+      zxid limits
   kept_touched id some =
       record {
-        lawful = lawful_touched (tree_of nodes sessions time zxid) id kept.lawful some;
+        lawful = lawful_touched (tree_of nodes sessions time zxid limits) id kept.lawful some;
         paths = kept.paths;
         named = kept.named;
       }
 
   pub kept_ended : (id : ℕ) → ephemerals nodes id ≡ [] →
-      IsKept nodes places (finite.remove sessions id) time zxid
+      IsKept nodes places (finite.remove sessions id) time zxid limits
   kept_ended id none =
       record {
-        lawful = lawful_forgotten (tree_of nodes sessions time zxid) id kept.lawful none;
+        lawful = lawful_forgotten (tree_of nodes sessions time zxid limits) id kept.lawful none;
         paths = kept.paths;
         named = kept.named;
       }
@@ -119,14 +120,14 @@ module _ (nodes : Nodes) (places : Places) (sessions : Sessions) (time zxid : �
           absurd (not_none _ lives (ap (finite.get sessions) same ∙ gone))
 
 -- a node that a session owns, by what the nodes say
-pub is_owned : (v : NodesView) (sessions : Sessions) (time zxid : ℕ) (notes : Option Notes) →
-    IsStored notes v sessions time zxid → (session : ℕ) (r : Option Id) →
+pub is_owned : (v : NodesView) (sessions : Sessions) (time zxid : ℕ) (limits : TreeLimits) (notes : Option Notes) →
+    IsStored notes v sessions time zxid limits → (session : ℕ) (r : Option Id) →
     IfSome r (λ id. IsSome (path_of v id)) → IfSome r (λ id. AtNode v id (λ n. n.owner ≡ session))
     → IfSome r
     (λ id. (path : Path) × (finite.get v.places id ≡ Some path) × (n : Node) × (finite.get
     v.nodes path ≡ Some n) × (n.owner ≡ session))
-is_owned v sessions time zxid notes stored session None live owned = tt
-is_owned v sessions time zxid notes stored session (Some id) live owned =
+is_owned v sessions time zxid limits notes stored session None live owned = tt
+is_owned v sessions time zxid limits notes stored session (Some id) live owned =
     let at = path_there _ live in
     let n = has_some _ (stored.kept.named.there id at.0 at.1) in
     (at.0, at.1, n.0, n.1, owned n.0 (ap (option_and_then (finite.get v.nodes)) at.1 ∙ n.1))

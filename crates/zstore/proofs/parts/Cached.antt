@@ -7,8 +7,8 @@ use Rattle.std.specs.FinMap as finite
 use Rattle.zpath.specs.Grammar.{IsPath}
 use Rattle.zslots.specs.declared.id.Id.{Id}
 use Rattle.zslots.proofs.Maps.{id_cmp_total, id_cmp_same}
+use Rattle.ztree.specs.declared.limits.TreeLimits.{TreeLimits}
 use Rattle.ztree.specs.declared.node.Node.{Node}
-use Rattle.ztree.specs.declared.limits.TheConstants.{MAX_NODES}
 use Rattle.ztree.specs.Tree.{Path, Nodes, Sessions, parent_of, has_node, child_name, children, with_change_at}
 use Rattle.ztree.specs.Lawful.{IsPersistent, IsOwner, HasOneEnd}
 use Rattle.ztree.proofs.Sorted.{paths_total, same_path}
@@ -137,15 +137,15 @@ named_still nodes places named a = by (finite.get places a) refl
     by None at = refl
     by (Some q) at = rw (named.there a q at) refl
 
-module _ (nodes : Nodes) (places : Places) (sessions : Sessions) (time zxid : ℕ)
-    (kept : IsKept nodes places sessions time zxid) where
+module _ (nodes : Nodes) (places : Places) (sessions : Sessions) (time zxid : ℕ) (limits : TreeLimits)
+    (kept : IsKept nodes places sessions time zxid limits) where
   -- one more node, beneath a persistent one
   pub kept_with : (id : Id) (path : Path) (n : Node) → has_node nodes path ≡ false →
       IsPersistent (finite.get nodes (parent_of path)) → IsOwner sessions n.owner →
-      HasOneEnd n → finite.len nodes < MAX_NODES → IsPath path →
-      IsKept (finite.insert nodes path n) (finite.insert places id path) sessions time zxid
+      HasOneEnd n → finite.len nodes < limits.nodes → IsPath path →
+      IsKept (finite.insert nodes path n) (finite.insert places id path) sessions time zxid limits
   kept_with id path n free parent owner one few is_path = record {
-    lawful = lawful_inserted (tree_of nodes sessions time zxid) path n kept.lawful free parent owner
+    lawful = lawful_inserted (tree_of nodes sessions time zxid limits) path n kept.lawful free parent owner
         one few;
     paths = paths_inserted nodes path n kept.paths is_path;
     named = names_with nodes path n places kept.named id free;
@@ -154,9 +154,9 @@ module _ (nodes : Nodes) (places : Places) (sessions : Sessions) (time zxid : �
   -- a leaf gone
   pub kept_without : (id : Id) (path : Path) → finite.get places id ≡ Some path → path ≢ [] →
       children nodes path ≡ [] →
-      IsKept (finite.remove nodes path) (finite.remove places id) sessions time zxid
+      IsKept (finite.remove nodes path) (finite.remove places id) sessions time zxid limits
   kept_without id path is below leaf = record {
-    lawful = lawful_removed (tree_of nodes sessions time zxid) path kept.lawful below leaf;
+    lawful = lawful_removed (tree_of nodes sessions time zxid limits) path kept.lawful below leaf;
     paths = paths_removed nodes path kept.paths;
     named = names_without nodes places kept.named id path is;
   }
@@ -164,9 +164,9 @@ module _ (nodes : Nodes) (places : Places) (sessions : Sessions) (time zxid : �
   -- a node written, by a change that leaves its owner and its term
   pub kept_changed : (path : Path) (f : Node → Node) →
       ((n : Node) → ((f n).owner ≡ n.owner) × ((f n).term ≡ n.term)) →
-      IsKept (with_change_at nodes path f) places sessions time zxid
+      IsKept (with_change_at nodes path f) places sessions time zxid limits
   kept_changed path f owner = record {
-    lawful = lawful_changed (tree_of nodes sessions time zxid) path f owner kept.lawful;
+    lawful = lawful_changed (tree_of nodes sessions time zxid limits) path f owner kept.lawful;
     paths = paths_changed nodes path f kept.paths;
     named = record {
       there = λ a q is. has_node-changed nodes path f q ∙ kept.named.there a q is;

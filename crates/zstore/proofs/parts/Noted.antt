@@ -8,6 +8,7 @@ use Rattle.std.specs.FinMap.{get-empty}
 use Rattle.std.proofs.lemmas.Bool.Decides.{nat_tests}
 use Rattle.zslots.specs.declared.id.Id.{Id}
 use Rattle.zslots.specs.Ids.{id_cmp}
+use Rattle.ztree.specs.declared.limits.TreeLimits.{TreeLimits}
 use Rattle.ztree.specs.Tree.{Path, Sessions}
 use Rattle.znodes.specs.NodesView.{NodesView, SameButRoom}
 use Rattle.zstore.specs.declared.undo.Undo.{Undo}
@@ -56,10 +57,10 @@ freed_none v (undo.Marked id marks) none = refl
 freed_none v (undo.Written id content) none = refl
 
 -- with no mark and nothing held, all is stored
-pub stored_plain : (v : NodesView) (sessions : Sessions) (time zxid : ℕ) (held : Held) →
-    held ≡ finite.empty → IsKept v.nodes v.places sessions time zxid → AreOwners v.owners sessions →
-    IsStored None (with_held v held) sessions time zxid
-stored_plain v sessions time zxid held none kept owners = record {
+pub stored_plain : (v : NodesView) (sessions : Sessions) (time zxid : ℕ) (limits : TreeLimits) (held : Held) →
+    held ≡ finite.empty → IsKept v.nodes v.places sessions time zxid limits → AreOwners v.owners sessions →
+    IsStored None (with_held v held) sessions time zxid limits
+stored_plain v sessions time zxid limits held none kept owners = record {
   kept = kept;
   owners = owners;
   apart = λ id path is. ap (λ (h : Held). finite.get h id) none ∙ get-empty id_cmp id;
@@ -69,8 +70,8 @@ stored_plain v sessions time zxid held none kept owners = record {
   room = omega arith;
 }
 
-module _ (v : NodesView) (sessions : Sessions) (time zxid : ℕ) where
-  module _ (notes : Option Notes) (stored : IsStored notes v sessions time zxid) where
+module _ (v : NodesView) (sessions : Sessions) (time zxid : ℕ) (limits : TreeLimits) where
+  module _ (notes : Option Notes) (stored : IsStored notes v sessions time zxid limits) where
     -- what was taken away since the mark is held
     pub notes_held : AllHeld (undos_of notes) v.held
     notes_held = all_held v.owners (undos_of notes) (parts_of v) stored.fit
@@ -82,35 +83,35 @@ module _ (v : NodesView) (sessions : Sessions) (time zxid : ℕ) where
 
     -- the mark given up
     pub stored_kept : IsStored None (with_held v (release_all (undos_of notes) v.held)) sessions time
-        zxid
+        zxid limits
     stored_kept =
-        stored_plain v sessions time zxid (release_all (undos_of notes) v.held) none_held stored.kept
+        stored_plain v sessions time zxid limits (release_all (undos_of notes) v.held) none_held stored.kept
         stored.owners
 
     -- and something else than the nodes changed
-    pub stored_changed : (sessions' : Sessions) (time' zxid' : ℕ) →
-        IsKept v.nodes v.places sessions' time' zxid' → AreOwners v.owners sessions' →
-        IsStored None (with_held v (release_all (undos_of notes) v.held)) sessions' time' zxid'
-    stored_changed sessions' time' zxid' kept owners =
-        stored_plain v sessions' time' zxid' (release_all (undos_of notes) v.held) none_held kept
+    pub stored_changed : (sessions' : Sessions) (time' zxid' : ℕ) (limits' : TreeLimits) →
+        IsKept v.nodes v.places sessions' time' zxid' limits' → AreOwners v.owners sessions' →
+        IsStored None (with_held v (release_all (undos_of notes) v.held)) sessions' time' zxid' limits'
+    stored_changed sessions' time' zxid' limits' kept owners =
+        stored_plain v sessions' time' zxid' limits' (release_all (undos_of notes) v.held) none_held kept
         owners
 
     -- and with other room
     pub stored_freed : (w : NodesView) → GivesUp (undos_of notes) v w →
-        IsStored None w sessions time zxid
+        IsStored None w sessions time zxid limits
     stored_freed w gives =
-        subst (λ (x : NodesView). IsStored None x sessions time zxid) (sym gives)
-        (stored_plain (record v { room = w.room }) sessions time zxid
+        subst (λ (x : NodesView). IsStored None x sessions time zxid limits) (sym gives)
+        (stored_plain (record v { room = w.room }) sessions time zxid limits
         (release_all (undos_of notes) v.held) none_held stored.kept stored.owners)
 
     -- and so in a copy of the nodes
     pub stored_copied : (w : NodesView) → SameButRoom v w →
-        IsStored None (with_held w (release_all (undos_of notes) w.held)) sessions time zxid
+        IsStored None (with_held w (release_all (undos_of notes) w.held)) sessions time zxid limits
     stored_copied w same =
         subst (λ (x : NodesView).
-        IsStored None (with_held x (release_all (undos_of notes) x.held)) sessions time zxid)
+        IsStored None (with_held x (release_all (undos_of notes) x.held)) sessions time zxid limits)
         (sym same)
-        (stored_plain (record v { room = w.room }) sessions time zxid
+        (stored_plain (record v { room = w.room }) sessions time zxid limits
         (release_all (undos_of notes) v.held) none_held stored.kept stored.owners)
 
     pub copy_held : (w : NodesView) → SameButRoom v w → AllHeld (undos_of notes) w.held
@@ -119,7 +120,7 @@ module _ (v : NodesView) (sessions : Sessions) (time zxid : ℕ) where
 
     -- and a new mark set
     pub stored_started : (w : NodesView) → GivesUp (undos_of notes) v w → (room : ℕ) →
-        room ≤ w.room → IsStored (Some (record { undos = []; room = room })) w sessions time zxid
+        room ≤ w.room → IsStored (Some (record { undos = []; room = room })) w sessions time zxid limits
     stored_started w gives room within =
         let plain = stored_freed w gives in
         record {
@@ -134,10 +135,10 @@ module _ (v : NodesView) (sessions : Sessions) (time zxid : ℕ) where
 
     -- what was done since the mark undone
     pub stored_back : (w : NodesView) → parts_of w ≡ all_undone (undos_of notes) (parts_of v) →
-        w.owners ≡ v.owners → IsStored None w sessions time zxid
+        w.owners ≡ v.owners → IsStored None w sessions time zxid limits
     stored_back w parts owners =
         let kept =
-        subst (λ (p : Parts). IsKept p.nodes p.places sessions time zxid) (sym parts)
+        subst (λ (p : Parts). IsKept p.nodes p.places sessions time zxid limits) (sym parts)
         stored.before in
         let held = ap (λ (p : Parts). p.held) parts ∙ stored.held in
         record {
@@ -151,7 +152,7 @@ module _ (v : NodesView) (sessions : Sessions) (time zxid : ℕ) where
         }
 
 -- a change that is undone by a note
-module _ (u : Undo) (old new : NodesView) (sessions : Sessions) (time zxid : ℕ)
+module _ (u : Undo) (old new : NodesView) (sessions : Sessions) (time zxid : ℕ) (limits : TreeLimits)
     (back : undone u (parts_of new) ≡ parts_of old) where
   all_back : (us : List Undo) →
       all_undone (us ++ u ∷ []) (parts_of new) ≡ all_undone us (parts_of old)
@@ -159,27 +160,27 @@ module _ (u : Undo) (old new : NodesView) (sessions : Sessions) (time zxid : ℕ
 
   -- the mark that is set then
   pub noted_marked : (notes : Option Notes) →
-      option_map (mark_of (with_held new (held_after u notes new.held)) sessions time zxid)
-      (add_note u notes) ≡ mark_left 1 (option_map (mark_of old sessions time zxid) notes)
+      option_map (mark_of (with_held new (held_after u notes new.held)) sessions time zxid limits)
+      (add_note u notes) ≡ mark_left 1 (option_map (mark_of old sessions time zxid limits) notes)
   noted_marked None = refl
   noted_marked (Some n) = by (nat_le 1 n.room)
     where
       by : (b : Bool) →
           option_map
           (mark_of (with_held new (cond b new.held (release_all (n.undos ++ u ∷ []) new.held)))
-          sessions time zxid)
+          sessions time zxid limits)
           (cond b (Some (record { undos = n.undos ++ u ∷ []; room = n.room - 1 })) None)
-          ≡ cond b (Some (record (mark_of old sessions time zxid n) { steps = n.room - 1 })) None
+          ≡ cond b (Some (record (mark_of old sessions time zxid limits n) { steps = n.room - 1 })) None
       by true =
           ap (λ (p : Parts). Some
           (record {
-            tree = tree_of p.nodes sessions time zxid;
+            tree = tree_of p.nodes sessions time zxid limits;
             places = p.places;
             steps = n.room - 1;
           })) (all_back n.undos)
       by false = refl
 
-  module _ (notes : Option Notes) (stored : IsStored notes old sessions time zxid)
+  module _ (notes : Option Notes) (stored : IsStored notes old sessions time zxid limits)
       (owners : new.owners ≡ old.owners) (fits : Fits new.owners u (parts_of new)) where
     -- all can be undone still
     fit : FitAll new.owners (undos_of notes ++ u ∷ []) (parts_of new)
@@ -196,24 +197,24 @@ module _ (u : Undo) (old new : NodesView) (sessions : Sessions) (time zxid : ℕ
         ∙ ap (λ (p : Parts). p.held) (all_back (undos_of notes)) ∙ stored.held
 
     -- and all is stored
-    pub stored_noted : IsKept new.nodes new.places sessions time zxid →
+    pub stored_noted : IsKept new.nodes new.places sessions time zxid limits →
         ((id : Id) (path : Path) → finite.get new.places id ≡ Some path →
         finite.get new.held id ≡ None) → old.room + returning u ≤ new.room + 1 →
-        IsStored (add_note u notes) (with_held new (held_after u notes new.held)) sessions time zxid
+        IsStored (add_note u notes) (with_held new (held_after u notes new.held)) sessions time zxid limits
     stored_noted kept apart more = by notes stored fit none_left
       where
         again : AreOwners new.owners sessions
         again = subst (λ (o : Owners). AreOwners o sessions) (sym owners) stored.owners
 
-        within : (n : Notes) → IsStored (Some n) old sessions time zxid →
+        within : (n : Notes) → IsStored (Some n) old sessions time zxid limits →
             FitAll new.owners (n.undos ++ u ∷ []) (parts_of new) →
             release_all (n.undos ++ u ∷ []) new.held ≡ finite.empty → (b : Bool) → nat_le 1 n.room ≡ b
             → IsStored
             (cond b (Some (record { undos = n.undos ++ u ∷ []; room = n.room - 1 })) None)
             (with_held new (cond b new.held (release_all (n.undos ++ u ∷ []) new.held))) sessions
-            time zxid
+            time zxid limits
         within n was fit none false full =
-            stored_plain new sessions time zxid (release_all (n.undos ++ u ∷ []) new.held) none kept
+            stored_plain new sessions time zxid limits (release_all (n.undos ++ u ∷ []) new.held) none kept
             again
         within n was fit none true enough =
             let had = was.room in
@@ -223,17 +224,17 @@ module _ (u : Undo) (old new : NodesView) (sessions : Sessions) (time zxid : ℕ
               owners = again;
               apart = apart;
               fit = fit;
-              before = subst (λ (p : Parts). IsKept p.nodes p.places sessions time zxid)
+              before = subst (λ (p : Parts). IsKept p.nodes p.places sessions time zxid limits)
                   (sym (all_back n.undos)) was.before;
               held = ap (λ (p : Parts). p.held) (all_back n.undos) ∙ was.held;
               room = grind (arith, nat_tests, had, count, more, enough);
             }
 
-        by : (notes : Option Notes) → IsStored notes old sessions time zxid →
+        by : (notes : Option Notes) → IsStored notes old sessions time zxid limits →
             FitAll new.owners (undos_of notes ++ u ∷ []) (parts_of new) →
             release_all (undos_of notes ++ u ∷ []) new.held ≡ finite.empty →
             IsStored (add_note u notes) (with_held new (held_after u notes new.held)) sessions time
-            zxid
+            zxid limits
         by None was fit none =
-            stored_plain new sessions time zxid (release u new.held) none kept again
+            stored_plain new sessions time zxid limits (release u new.held) none kept again
         by (Some n) was fit none = within n was fit none (nat_le 1 n.room) refl

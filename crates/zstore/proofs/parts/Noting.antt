@@ -5,6 +5,7 @@ use Rattle.std.specs.Option.{option_and_then}
 use Rattle.std.specs.FinMap as finite
 use Rattle.zslots.specs.declared.id.Id.{Id}
 use Rattle.zslots.proofs.Maps.{id_cmp_total, id_cmp_same}
+use Rattle.ztree.specs.declared.limits.TreeLimits.{TreeLimits}
 use Rattle.ztree.specs.declared.node.Node.{Node}
 use Rattle.ztree.specs.Tree.{Path, Nodes, Sessions, parent_of, children}
 use Rattle.ztree.proofs.Maps.{has_some}
@@ -42,8 +43,8 @@ module _ (v w : NodesView) (id : Id) (fits : CanGo (parts_of v) id)
       λ i. record { nodes = gone.nodes i; places = gone.places i; held = held i } in
       ap parts_of release ∙ parts ∙ sym (undone-gone (parts_of v) id fits)
 
-module _ (old new : NodesView) (sessions : Sessions) (time zxid : ℕ) (notes : Option Notes)
-    (stored : IsStored notes old sessions time zxid) (id : Id)
+module _ (old new : NodesView) (sessions : Sessions) (time zxid : ℕ) (limits : TreeLimits) (notes : Option Notes)
+    (stored : IsStored notes old sessions time zxid limits) (id : Id)
     (live : IsSome (finite.get old.places id)) where
   -- the node that a live Id names
   There : Type 0
@@ -83,23 +84,23 @@ module _ (old new : NodesView) (sessions : Sessions) (time zxid : ℕ) (notes : 
     pub take_back : AtPath old id (λ path. path ≢ []) →
         undone (undo.Taken id above) (parts_of new) ≡ parts_of old
     take_back below =
-        taken_back old new sessions time zxid notes stored id path node took named found
+        taken_back old new sessions time zxid limits notes stored id path node took named found
         (below path named) above
 
     pub take_held : AtPath old id (λ path. path ≢ []) →
         AtPath old id (λ path. finite.get old.places above ≡ Some (parent_of path)) →
         AllHeld (undos_of notes ++ undo.Taken id above ∷ []) new.held
     take_held below over =
-        taken_held old new sessions time zxid notes stored id path node took named found
+        taken_held old new sessions time zxid limits notes stored id path node took named found
         (below path named) above (over path named)
 
     pub take_stored : AtPath old id (λ path. path ≢ []) →
         AtPath old id (λ path. finite.get old.places above ≡ Some (parent_of path)) →
         AtPath old id (λ path. children old.nodes path ≡ []) →
         IsStored (add_note (undo.Taken id above) notes)
-        (with_held new (held_after (undo.Taken id above) notes new.held)) sessions time zxid
+        (with_held new (held_after (undo.Taken id above) notes new.held)) sessions time zxid limits
     take_stored below over leaf =
-        taken_stored old new sessions time zxid notes stored id path node took named found
+        taken_stored old new sessions time zxid limits notes stored id path node took named found
         (below path named) above (over path named) (leaf path named)
 
     pub take_places : new.places ≡ finite.remove old.places id
@@ -128,20 +129,20 @@ module _ (old new : NodesView) (sessions : Sessions) (time zxid : ℕ) (notes : 
 
     pub marks_back : undone (undo.Marked id before) (parts_of new) ≡ parts_of old
     marks_back =
-        written_back old new sessions time zxid notes stored id (undo.Marked id before) path node
+        written_back old new sessions time zxid limits notes stored id (undo.Marked id before) path node
         (node_with_marks marks) (node_with_marks before) (writes path named) named found marks_again
         (λ p. refl) (λ p some. some) refl
 
     pub marks_held : AllHeld (undos_of notes ++ undo.Marked id before ∷ []) new.held
     marks_held =
-        written_held old new sessions time zxid notes stored id (undo.Marked id before) path node
+        written_held old new sessions time zxid limits notes stored id (undo.Marked id before) path node
         (node_with_marks marks) (node_with_marks before) (writes path named) named found marks_again
         (λ p. refl) (λ p some. some) refl
 
     pub marks_stored : IsStored (add_note (undo.Marked id before) notes)
-        (with_held new (held_after (undo.Marked id before) notes new.held)) sessions time zxid
+        (with_held new (held_after (undo.Marked id before) notes new.held)) sessions time zxid limits
     marks_stored =
-        written_stored old new sessions time zxid notes stored id (undo.Marked id before) path node
+        written_stored old new sessions time zxid limits notes stored id (undo.Marked id before) path node
         (node_with_marks marks) (node_with_marks before) (writes path named) named found marks_again
         (λ p. refl) (λ p some. some) refl (λ m. (refl, refl))
 
@@ -153,19 +154,19 @@ module _ (old new : NodesView) (sessions : Sessions) (time zxid : ℕ) (notes : 
 
     pub content_back : undone (undo.Written id before) (parts_of new) ≡ parts_of old
     content_back =
-        written_back old new sessions time zxid notes stored id (undo.Written id before) path node
+        written_back old new sessions time zxid limits notes stored id (undo.Written id before) path node
         (node_with_content content) (node_with_content before) (writes path named) named found
         content_again (λ p. refl) (λ p some. some) refl
 
     pub content_held : AllHeld (undos_of notes ++ undo.Written id before ∷ []) new.held
     content_held =
-        written_held old new sessions time zxid notes stored id (undo.Written id before) path node
+        written_held old new sessions time zxid limits notes stored id (undo.Written id before) path node
         (node_with_content content) (node_with_content before) (writes path named) named found
         content_again (λ p. refl) (λ p some. some) refl
 
     pub content_stored : IsStored (add_note (undo.Written id before) notes)
-        (with_held new (held_after (undo.Written id before) notes new.held)) sessions time zxid
+        (with_held new (held_after (undo.Written id before) notes new.held)) sessions time zxid limits
     content_stored =
-        written_stored old new sessions time zxid notes stored id (undo.Written id before) path node
+        written_stored old new sessions time zxid limits notes stored id (undo.Written id before) path node
         (node_with_content content) (node_with_content before) (writes path named) named found
         content_again (λ p. refl) (λ p some. some) refl (λ m. (refl, refl))

@@ -1,6 +1,7 @@
 -- Samples for the worked rows.
 use Rattle.ztree.specs.declared.term.Term.TheVariants.{Unlimited, Container}
 use Rattle.ztree.specs.declared.node.Node.{Node}
+use Rattle.ztree.specs.Limits.{profile}
 use Rattle.ztree.specs.Tree.{Tree}
 use Rattle.ztree.specs.support.Samples.{at_a, some_node, some_session}
 use Rattle.zstore.specs.Restored.{rooted_tree, with_row, with_session_row}
@@ -21,7 +22,7 @@ owned_container = record some_node { term = Container }
 
 -- the root and session 9, at tick 8 and after change 40
 abbrev pub rooted : Tree
-rooted = with_session_row (rooted_tree plain 8 40) 9 some_session
+rooted = with_session_row (rooted_tree plain 8 40 profile) 9 some_session
 
 -- the same with an ephemeral of that session
 abbrev pub with_ephemeral : Tree

@@ -6,6 +6,7 @@ use Rattle.ztree.specs.declared.term.Term.{Term}
 use Rattle.ztree.specs.declared.term.Term.TheVariants.{Unlimited, Timed, Container}
 use Rattle.ztree.specs.declared.node.Node.{Node}
 use Rattle.ztree.specs.declared.session.Session.{Session}
+use Rattle.ztree.specs.declared.limits.TreeLimits.{TreeLimits}
 use Rattle.ztree.specs.Tree.{Tree, Path, Nodes, Sessions}
 
 -- how a path is stored
@@ -34,9 +35,9 @@ coded_term = code_by (Option (Option ℕ)) (coded_option (coded_option coded_ℕ
 -- how a node is stored
 abbrev pub coded_node : Coded Node
 coded_node =
-    code_by (List ℕ × (ℕ × (ℕ × (ℕ × (ℕ × (ℕ × (ℕ × (ℕ × (ℕ × (ℕ × Term))))))))))
-    (coded× (coded_list coded_ℕ) (coded× coded_ℕ (coded× coded_ℕ (coded× coded_ℕ (coded× coded_ℕ (coded× coded_ℕ (coded× coded_ℕ (coded× coded_ℕ (coded× coded_ℕ (coded× coded_ℕ coded_term))))))))))
-    (λ n. (n.bytes, (n.czxid, (n.mzxid, (n.pzxid, (n.ctime, (n.mtime, (n.version, (n.cversion, (n.owner, (n.seq, n.term)))))))))))
+    code_by (List ℕ × (ℕ × (ℕ × (ℕ × (ℕ × (ℕ × (ℕ × (ℕ × (ℕ × (ℕ × (ℕ × Term)))))))))))
+    (coded× (coded_list coded_ℕ) (coded× coded_ℕ (coded× coded_ℕ (coded× coded_ℕ (coded× coded_ℕ (coded× coded_ℕ (coded× coded_ℕ (coded× coded_ℕ (coded× coded_ℕ (coded× coded_ℕ (coded× coded_ℕ coded_term)))))))))))
+    (λ n. (n.bytes, (n.czxid, (n.mzxid, (n.pzxid, (n.ctime, (n.mtime, (n.version, (n.cversion, (n.aversion, (n.owner, (n.seq, n.term))))))))))))
     (λ p. record {
       bytes = p.0;
       czxid = p.1.0;
@@ -46,9 +47,10 @@ coded_node =
       mtime = p.1.1.1.1.1.0;
       version = p.1.1.1.1.1.1.0;
       cversion = p.1.1.1.1.1.1.1.0;
-      owner = p.1.1.1.1.1.1.1.1.0;
-      seq = p.1.1.1.1.1.1.1.1.1.0;
-      term = p.1.1.1.1.1.1.1.1.1.1;
+      aversion = p.1.1.1.1.1.1.1.1.0;
+      owner = p.1.1.1.1.1.1.1.1.1.0;
+      seq = p.1.1.1.1.1.1.1.1.1.1.0;
+      term = p.1.1.1.1.1.1.1.1.1.1.1;
     }) (λ _. refl)
 
 -- how a session is stored
@@ -57,9 +59,17 @@ coded_session =
     code_by (ℕ × (ℕ × ℕ)) (coded× coded_ℕ (coded× coded_ℕ coded_ℕ))
     (λ s. (s.client, (s.timeout, s.deadline))) (λ p. record { client = p.0; timeout = p.1.0; deadline = p.1.1 }) (λ _. refl)
 
+-- how limits are stored
+abbrev pub coded_limits : Coded TreeLimits
+coded_limits =
+    code_by (ℕ × (ℕ × ℕ)) (coded× coded_ℕ (coded× coded_ℕ coded_ℕ))
+    (λ l. (l.nodes, (l.sessions, l.timeout))) (λ p. record { nodes = p.0; sessions = p.1.0; timeout = p.1.1 }) (λ _. refl)
+
 -- how a tree is stored
 abbrev pub coded_tree : Coded Tree
 coded_tree =
-    code_by (Nodes × (Sessions × (ℕ × ℕ)))
-    (coded× (finite.code coded_path coded_node) (coded× (finite.code coded_ℕ coded_session) (coded× coded_ℕ coded_ℕ)))
-    (λ t. (t.nodes, (t.sessions, (t.time, t.zxid)))) (λ p. record { nodes = p.0; sessions = p.1.0; time = p.1.1.0; zxid = p.1.1.1 }) (λ _. refl)
+    code_by (Nodes × (Sessions × (ℕ × (ℕ × TreeLimits))))
+    (coded× (finite.code coded_path coded_node)
+    (coded× (finite.code coded_ℕ coded_session) (coded× coded_ℕ (coded× coded_ℕ coded_limits))))
+    (λ t. (t.nodes, (t.sessions, (t.time, (t.zxid, t.limits)))))
+    (λ p. record { nodes = p.0; sessions = p.1.0; time = p.1.1.0; zxid = p.1.1.1.0; limits = p.1.1.1.1 }) (λ _. refl)

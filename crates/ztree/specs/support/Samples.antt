@@ -1,6 +1,7 @@
 -- Samples for the worked rows.
 use Rattle.std.specs.Prelude.{ℕ, Bool, List, [], ◌∷◌, codes}
 use Rattle.std.specs.FinMap as finite
+use Rattle.ztree.specs.Limits.{profile}
 use Rattle.ztree.specs.Tree.{Tree, Path, with_node}
 use Rattle.ztree.specs.declared.term.Term.TheVariants.{Timed, Container}
 use Rattle.ztree.specs.declared.node.Node.{Node}
@@ -33,6 +34,7 @@ some_node =
       mtime = 5;
       version = 6;
       cversion = 8;
+      aversion = 13;
       owner = 9;
       seq = 10;
       term = Timed 12;
@@ -48,7 +50,7 @@ fresh_container = record container { cversion = 0 }
 -- its stat where it has eleven children
 abbrev pub some_stat : Stat
 some_stat =
-    record { czxid = 1; mzxid = 2; pzxid = 3; ctime = 4; mtime = 5; version = 6; cversion = 8; owner = 9; length = 2; children = 11 }
+    record { czxid = 1; mzxid = 2; pzxid = 3; ctime = 4; mtime = 5; version = 6; cversion = 8; aversion = 13; owner = 9; length = 2; children = 11 }
 
 -- the node after a change of this number made a child beneath it, or took one away; and after it made one that it numbered
 abbrev pub after_change : ℕ → Node
@@ -73,6 +75,7 @@ made_node =
       mtime = 21;
       version = 0;
       cversion = 0;
+      aversion = 0;
       owner = 9;
       seq = 0;
       term = Timed 12;
@@ -90,6 +93,7 @@ two_nodes =
       sessions = finite.empty;
       time = 30;
       zxid = 40;
+      limits = profile;
     }
 
 -- the same where the next change made a node beneath the second one, of owner 9 and with a time to live of 12: under a name

@@ -4,7 +4,7 @@ use Rattle.std.specs.Option.{option_map, option_map_or}
 use Rattle.std.specs.FinMap as finite
 use Rattle.zpath.specs.First.{first_that_holds}
 use Rattle.ztree.specs.declared.node.Node.{Node}
-use Rattle.ztree.specs.Tree.{Tree, Path, Nodes, parent_of, new_node, with_node, without_node, with_child, without_child, with_data, with_change_at}
+use Rattle.ztree.specs.Tree.{Tree, Path, Nodes, parent_of, new_node, with_node, without_node, with_child, without_child, with_data, with_acl, with_change_at}
 use Rattle.ztree.proofs.Sorted.{paths_total, same_path}
 use Rattle.ztree.proofs.Maps.{same_or_other, get-insert-here, get-remove-elsewhere}
 use Rattle.ztree.proofs.Nodes.{get-insert-other, changed_at-some}
@@ -13,6 +13,7 @@ use Rattle.zcalls.specs.declared.refusal.Refusal.TheVariants.{Exhausted, BadVers
 use Rattle.zcalls.specs.declared.call.Create.{Create}
 use Rattle.zcalls.specs.declared.call.Delete.{Delete}
 use Rattle.zcalls.specs.declared.call.SetData.{SetData}
+use Rattle.zcalls.specs.declared.call.SetAcl.{SetAcl}
 use Rattle.zcalls.specs.declared.call.Check.{Check}
 use Rattle.zcalls.specs.declared.call.Part.{Part}
 use Rattle.zcalls.specs.declared.call.Part.TheVariants as part
@@ -24,7 +25,7 @@ use Rattle.zcalls.specs.declared.reply.PartReply.{PartReply}
 use Rattle.zcalls.specs.declared.reply.PartReply.TheVariants as part_reply
 use Rattle.zcalls.specs.declared.reply.Reply.{Reply}
 use Rattle.zcalls.specs.declared.reply.Reply.TheVariants as reply
-use Rattle.zcalls.specs.Part.{create_step, delete_step, set_step, check_step, part_step, reported_as_part, create_refusals, delete_refusals, unless_refused, made_path, owner_of, term_of, on_version, has_other_version, with_node_set}
+use Rattle.zcalls.specs.Part.{create_step, delete_step, set_step, acl_step, check_step, part_step, reported_as_part, create_refusals, delete_refusals, unless_refused, made_path, owner_of, term_of, on_version, has_other_version, unless_other, has_other_acl, with_node_set}
 use Rattle.zcalls.specs.Multi.{Run, run, behind, and_then}
 use Rattle.zcalls.specs.Step.{step, is_exhausted, update_result, change_result, multi_result}
 use Rattle.zjute.specs.declared.event.EventKind.{EventKind}
@@ -139,6 +140,30 @@ set_did t set path = by (finite.get t.nodes set.path) refl
     by : (o : Option Node) → finite.get t.nodes set.path ≡ o → SetDid t set path (on_version set.version o (λ n. with_node_set t set.path (write n)))
     by None is = tt
     by (Some n) is = chosen n is (has_other_version set.version n)
+
+-- what a write of an access control list did: nothing that is to be reported
+abbrev AclDid : Tree → Path → Result (Tree × ChangeReply) Refusal → Type 0
+AclDid t path (Err refusal) = Unit {0}
+AclDid t path (Ok (u, Created made)) = ⊥
+AclDid t path (Ok (u, Deleted)) = ⊥
+AclDid t path (Ok (u, Set stat)) = (data_at u.nodes path ≡ data_at t.nodes path) × (children_at u.nodes path ≡ children_at t.nodes path)
+
+acl_did : (t : Tree) (set : SetAcl) (path : Path) → AclDid t path (acl_step t set)
+unfolding acl_step
+acl_did t set path = by (finite.get t.nodes set.path) refl
+  where
+    kept : {X : Type 0} (F : Node → X) (n : Node) → finite.get t.nodes set.path ≡ Some n → ((n : Node) → F (with_acl n) ≡ F n) → read_at F (finite.insert t.nodes set.path (with_acl n)) path ≡ read_at F t.nodes path
+    kept F n is keeps =
+        ap (λ (m : Nodes). read_at F m path) (sym (changed_at-some t.nodes set.path with_acl n is))
+        ∙ change_keeps F t.nodes set.path with_acl path keeps
+
+    chosen : (n : Node) → finite.get t.nodes set.path ≡ Some n → (test : Bool) → AclDid t path (if test then Err BadVersion else Ok (with_node_set t set.path (with_acl n)))
+    chosen n is true = tt
+    chosen n is false = (kept but_children n is (λ n. refl), kept (λ (n : Node). n.pzxid) n is (λ n. refl))
+
+    by : (o : Option Node) → finite.get t.nodes set.path ≡ o → AclDid t path (unless_other (has_other_acl set.version) o (λ n. with_node_set t set.path (with_acl n)))
+    by None is = tt
+    by (Some n) is = chosen n is (has_other_acl set.version n)
 
 -- where nothing changed, nothing is to be reported
 untouched : (nodes : Nodes) (path : Path) (events : List Event) → ReportsChanges nodes nodes path events
@@ -255,6 +280,12 @@ set_reported t set path (Ok (u, Created made)) did = absurd did
 set_reported t set path (Ok (u, Deleted)) did = absurd did
 set_reported t set path (Ok (u, Set stat)) did = reported_write t set u path did
 
+acl_reported : (t : Tree) (set : SetAcl) (path : Path) (r : Result (Tree × ChangeReply) Refusal) → AclDid t path r → Did t (act.SetAcl set) path (change_result t r)
+acl_reported t set path (Err refusal) did = untouched t.nodes path []
+acl_reported t set path (Ok (u, Created made)) did = absurd did
+acl_reported t set path (Ok (u, Deleted)) did = absurd did
+acl_reported t set path (Ok (u, Set stat)) did = record { of_data = λ misses. did.0; of_children = λ misses. did.1 }
+
 multi_reported : (t : Tree) (parts : List Part) (path : Path) (r : Run) → RunDid t parts path r → Did t (act.Multi parts) path (multi_result t r)
 multi_reported t parts path (Err (number, refusal)) did = untouched t.nodes path []
 multi_reported t parts path (Ok (u, reported)) did = did
@@ -268,6 +299,7 @@ update_reported : (t : Tree) (client : ℕ) (update : Update) (path : Path) → 
 update_reported t client (act.Create create) path stays = create_reported t create path (create_step t client create) (create_did t client create path)
 update_reported t client (act.Delete delete) path stays = delete_reported t delete path (delete_step t delete) (delete_did t delete path)
 update_reported t client (act.SetData set) path stays = set_reported t set path (set_step t set) (set_did t set path)
+update_reported t client (act.SetAcl set) path stays = acl_reported t set path (acl_step t set) (acl_did t set path)
 update_reported t client (act.Multi parts) path stays = multi_reported t parts path (run t client parts) (run_did t client parts path)
 update_reported t client (act.Open ticks) path stays = either t (act.Open ticks) path _ _ _ (untouched t.nodes path []) (untouched t.nodes path [])
 update_reported t client (act.Ping session) path stays = either t (act.Ping session) path _ _ _ (untouched t.nodes path []) (untouched t.nodes path [])

@@ -36,7 +36,8 @@ abbrev pub parts_events : List Part → List PartReply → List Event
 parts_events (part ∷ parts) (reply ∷ replies) = part_events part reply ++ parts_events parts replies
 parts_events parts replies = []
 
--- the events of an update, by its reply; a refused update has none
+-- the events of an update, by its reply; a refused update has none, and a write of an access
+-- control list has none
 abbrev pub events_of : Update → Reply → List Event
 events_of (act.Create create) (reply.Created path) = with_parent NodeCreated path
 events_of (act.Delete delete) reply.Deleted = with_parent NodeDeleted delete.path

@@ -7,16 +7,17 @@ use Rattle.std.specs.Option.{option_map}
 use Rattle.ztree.specs.Tree.{Tree, Path, Nodes}
 use Rattle.ztree.specs.declared.node.Node.{Node}
 use Rattle.zcalls.specs.declared.call.Update.{Update}
-use Rattle.zcalls.specs.declared.call.Update.TheVariants.{Create, Delete, SetData, Multi, Open, Ping, Close, Tick}
+use Rattle.zcalls.specs.declared.call.Update.TheVariants.{Create, Delete, SetData, SetAcl, Multi, Open, Ping, Close, Tick}
 use Rattle.zcalls.specs.Step.{step}
 use Rattle.zjute.specs.declared.event.EventKind.{EventKind}
 use Rattle.zjute.specs.declared.event.EventKind.TheVariants as kind
 use Rattle.zwatches.specs.declared.changes.event.Event.{Event}
 use Rattle.zwatches.specs.changes.Events.{events_of}
 
--- a node without what changes of its children alter
+-- A node without what changes of its children alter, and without the version of its access control
+-- list: no event tells of a write of this list (`DataTree.setACL` fires no watch).
 abbrev pub but_children : Node → Node
-but_children n = record n { pzxid = 0; cversion = 0; seq = 0 }
+but_children n = record n { pzxid = 0; cversion = 0; aversion = 0; seq = 0 }
 
 -- the same for the node at a path, if it exists
 abbrev pub data_at : Nodes → Path → Option Node
@@ -49,6 +50,7 @@ abbrev pub takes_away : Update → Bool
 takes_away (Create create) = false
 takes_away (Delete delete) = false
 takes_away (SetData set) = false
+takes_away (SetAcl set) = false
 takes_away (Multi parts) = false
 takes_away (Open ticks) = false
 takes_away (Ping session) = false

@@ -1,11 +1,11 @@
 -- How many watches each connection has, by a count that is kept.
-use Rattle.std.specs.Prelude.{◌≡◌, ℕ, List, count_by, unwrap_or, ◌==◌}
+use Rattle.std.specs.Prelude.{◌≡◌, ℕ, unwrap_or}
 use Rattle.std.specs.Coded.{Coded, coded_ℕ}
 use Rattle.std.specs.FinMap.{FinMap, get, insert}
 use Rattle.std.specs.FinMap as finite
 use Rattle.std.specs.Option.{option_map_or}
 use Rattle.std.specs.Ordering.{nat_cmp}
-use Rattle.zwatches.specs.declared.watch.Watch.{Watch}
+use Rattle.zwatches.specs.Watches.{Watches, share}
 
 -- a number under each connection's
 abbrev pub Counts : Type 0
@@ -24,10 +24,6 @@ abbrev pub changed_by : (ℕ → ℕ) → Counts → ℕ → Counts
 changed_by change counts connection =
     option_map_or (λ n. insert counts connection (change n)) (get counts connection) counts
 
--- how many of these watches are of a connection
-abbrev pub count_of : ℕ → List Watch → ℕ
-count_of connection ws = count_by (λ w. w.connection == connection) ws
-
--- each connection has as many of these watches as is counted
-abbrev pub AreCounted : Counts → List Watch → Type 0
-AreCounted counts ws = (connection : ℕ) → counted counts connection ≡ count_of connection ws
+-- each connection has as many watches as is counted
+abbrev pub AreCounted : Counts → Watches → Type 0
+AreCounted counts table = (connection : ℕ) → counted counts connection ≡ share table connection

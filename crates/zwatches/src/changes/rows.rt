@@ -9,7 +9,7 @@ ghost use Rattle.zcalls.specs.declared.reply.PartReply.TheVariants as part_reply
 ghost use Rattle.zcalls.specs.declared.reply.Reply.TheVariants as reply;
 ghost use Rattle.zjute.specs.declared.event.EventKind.TheVariants.{NodeCreated, NodeDeleted, NodeDataChanged, NodeChildrenChanged};
 ghost use Rattle.zwatches.specs.changes.Events.{event, events_of, part_events};
-ghost use Rattle.zwatches.specs.changes.support.Samples.{create_a_b, delete_a_b, set_a_b, check_a_b};
+ghost use Rattle.zwatches.specs.changes.support.Samples.{create_a_b, delete_a_b, set_a_b, list_a_b, check_a_b};
 ghost use Rattle.zwatches.specs.changes.support.Samples.{created_a_b, gone_a_b, written_a_b};
 
 /// The events of a change: of the node, and of its parent if the node was created or deleted. The
@@ -38,11 +38,13 @@ pub fn events_of_multis()
         ≡ gone_a_b ++ written_a_b }
 {}
 
-/// Calls without events: refused ones, and those whose reply shows no changed node.
+/// Calls without events: refused ones, writes of an access control list, and those whose reply
+/// shows no changed node.
 pub fn calls_without_events()
     ensures refused { events_of (act.Create create_a_b) (reply.Refused NoNode) ≡ [] }
     ensures refused_multi { events_of (act.Multi (part.SetData set_a_b ∷ []))
         (reply.MultiRefused 1 BadVersion) ≡ [] }
+    ensures list { events_of (act.SetAcl list_a_b) (reply.Set some_stat) ≡ [] }
     ensures opened { events_of (act.Open 3) (reply.Opened 7 3) ≡ [] }
     ensures pinged { events_of (act.Ping 7) reply.Pinged ≡ [] }
     ensures closed { events_of (act.Close 7) reply.Closed ≡ [] }

@@ -11,13 +11,13 @@ use Rattle.zcodec.proofs.Parts.{is_both, is_made, is_record}
 use Rattle.zcodec.proofs.Choices.{is_listed}
 use Rattle.zjute.proofs.Before.{Anything, before, is_form}
 use Rattle.zjute.proofs.Tags.{again_as, is_by_tag}
-use Rattle.zcalls.specs.declared.limits.TheConstants.{MAX_PARTS}
+use Rattle.zcalls.specs.declared.limits.TheConstants.{MOST_PARTS}
 use Rattle.zcalls.specs.declared.call.Part.{Part}
 use Rattle.zcalls.specs.declared.call.Part.TheVariants as part_is
 use Rattle.zcalls.specs.declared.call.Update.{Update}
 use Rattle.zcalls.specs.declared.call.Update.TheVariants as act
 use Rattle.zwire.specs.records.Fields.{path, content, version, node_kind, long}
-use Rattle.zwire.specs.records.Calls.{create, delete, set_data, check, part_at, part_spelled, part, parts_from, FitParts, parts, update_at, update_spelled, update}
+use Rattle.zwire.specs.records.Calls.{create, delete, set_data, set_acl, check, part_at, part_spelled, part, parts_from, FitParts, parts, update_at, update_spelled, update}
 use Rattle.zwire.proofs.records_lemmas.Sums.{none_take, one_takes}
 use Rattle.zwire.proofs.records_lemmas.Fields.{is_path, is_content, is_version, is_node_kind, is_number}
 
@@ -32,6 +32,10 @@ is_delete = is_record _ _ _ (is_both path version is_path is_version) (λ f. ref
 pub is_set_data : IsForm set_data
 unfolding set_data
 is_set_data = is_record _ _ _ (is_both path _ is_path (is_both version content is_version is_content)) (λ f. refl) (λ s. refl)
+
+pub is_set_acl : IsForm set_acl
+unfolding set_acl
+is_set_acl = is_record _ _ _ (is_both path version is_path is_version) (λ f. refl) (λ s. refl)
 
 pub is_check : IsForm check
 unfolding check
@@ -56,7 +60,7 @@ is_part = is_form part (is_by_tag Anything (number w8) part_at part_spelled is_u
 
 -- ---- multis
 
-some_parts : (ps qs : List Part) → (listed MAX_PARTS part).Fits ps → parts_from ps ≡ Ok qs → (qs ≡ ps) × FitParts qs
+some_parts : (ps qs : List Part) → (listed MOST_PARTS part).Fits ps → parts_from ps ≡ Ok qs → (qs ≡ ps) × FitParts qs
 some_parts [] qs fits e = absurd cc
 some_parts (p ∷ ps) qs fits e = subst (λ (xs : List Part). (xs ≡ p ∷ ps) × FitParts xs) (ok_is (p ∷ ps) qs e) (refl, (omega arith, fits))
 
@@ -70,7 +74,7 @@ no_parts (p ∷ ps) none = absurd (omega (arith, none))
 
 pub is_parts : IsForm parts
 unfolding parts
-is_parts = is_made (listed MAX_PARTS part) (λ parts. parts) parts_from FitParts (is_listed MAX_PARTS part (omega arith) is_part)
+is_parts = is_made (listed MOST_PARTS part) (λ parts. parts) parts_from FitParts (is_listed MOST_PARTS part (omega arith) is_part)
     (λ ps qs fits e. some_parts ps qs fits e)
     (λ ps fits. (from_parts ps fits.0, fits.1))
 
@@ -86,6 +90,7 @@ update_again (act.Open ticks) rest any fits = again_as Anything long (λ ticks. 
 update_again (act.Ping session) rest any fits = again_as Anything long (λ session. act.Ping session) (before Anything long is_number) session rest any fits
 update_again (act.Close session) rest any fits = again_as Anything long (λ session. act.Close session) (before Anything long is_number) session rest any fits
 update_again act.Tick rest any fits = refl
+update_again (act.SetAcl s) rest any fits = again_as Anything set_acl (λ s. act.SetAcl s) (before Anything set_acl is_set_acl) s rest any fits
 
 pub is_update : IsForm update
 unfolding update update_at
@@ -98,5 +103,6 @@ is_update = is_form update (is_by_tag Anything (number w8) update_at update_spel
     (one_takes update_spelled 5 long (λ session. act.Ping session) _ is_number (λ x. refl) (λ x. refl) (λ x fits. fits)
     (one_takes update_spelled 6 long (λ session. act.Close session) _ is_number (λ x. refl) (λ x. refl) (λ x fits. fits)
     (one_takes update_spelled 7 empty (λ _. act.Tick) _ is_empty (λ x. refl) (λ x. refl) (λ x fits. fits)
-    (none_take update_spelled)))))))))
+    (one_takes update_spelled 8 set_acl (λ s. act.SetAcl s) _ is_set_acl (λ x. refl) (λ x. refl) (λ x fits. fits)
+    (none_take update_spelled))))))))))
     update_again)

@@ -24,7 +24,7 @@ use Rattle.zpath.specs.declared.limits.TheConstants.{MAX_TEXT_LEN}
 use Rattle.zpath.specs.Grammar.{IsPath, text_of}
 use Rattle.zpath.specs.Faults.{fault_of, names_of, IsMemoryOr}
 use Rattle.zpath.proofs.Spelling.{path_from_text, text_has_no_fault, names_of-text_of}
-use Rattle.ztree.specs.declared.limits.TheConstants.{MAX_DATA, MAX_TTL}
+use Rattle.ztree.specs.declared.limits.TheConstants.{MOST_DATA, MAX_TTL}
 use Rattle.ztree.specs.Tree.{Path}
 use Rattle.zcalls.specs.declared.call.Expected.{Expected}
 use Rattle.zcalls.specs.declared.call.Expected.TheVariants.{Any, Exactly}
@@ -73,7 +73,7 @@ is_number = is_u64
 
 pub is_content : IsForm content
 unfolding content
-is_content = is_sized MAX_DATA (omega arith)
+is_content = is_sized MOST_DATA (omega arith)
 
 -- the text of a path is read as it
 pub path_again : (p : Path) → IsPath p → path_from (text_of p) ≡ Ok p

@@ -6,10 +6,11 @@ use Rattle.zcodec.specs.declared.fault.Fault.TheVariants.{Invalid}
 use Rattle.zcodec.specs.Forms.{Form, number, both, made, empty}
 use Rattle.zcodec.specs.Choices.{listed}
 use Rattle.zjute.specs.Shapes.{Spelled, behind, read_as, by_tag, fields}
-use Rattle.zcalls.specs.declared.limits.TheConstants.{MAX_PARTS}
+use Rattle.zcalls.specs.declared.limits.TheConstants.{MOST_PARTS}
 use Rattle.zcalls.specs.declared.call.Create.{Create}
 use Rattle.zcalls.specs.declared.call.Delete.{Delete}
 use Rattle.zcalls.specs.declared.call.SetData.{SetData}
+use Rattle.zcalls.specs.declared.call.SetAcl.{SetAcl}
 use Rattle.zcalls.specs.declared.call.Check.{Check}
 use Rattle.zcalls.specs.declared.call.Part.{Part}
 use Rattle.zcalls.specs.declared.call.Part.TheVariants as part_is
@@ -31,6 +32,10 @@ delete = fields (both path version) (λ d. (d.path, d.version))
 unfoldable pub set_data : Form SetData
 set_data = fields (both path (both version content)) (λ s. (s.path, (s.version, s.bytes)))
     (λ f. record { path = f.0; bytes = f.1.1; version = f.1.0 })
+
+unfoldable pub set_acl : Form SetAcl
+set_acl = fields (both path version) (λ s. (s.path, s.version))
+    (λ f. record { path = f.0; version = f.1 })
 
 unfoldable pub check : Form Check
 check = fields (both path version) (λ c. (c.path, c.version))
@@ -60,11 +65,11 @@ parts_from [] = Err Invalid
 parts_from (first ∷ parts) = Ok (first ∷ parts)
 
 abbrev pub FitParts : List Part → Type 0
-FitParts parts = (0 < length parts) × (listed MAX_PARTS part).Fits parts
+FitParts parts = (0 < length parts) × (listed MOST_PARTS part).Fits parts
 
 -- the parts, after their count
 unfoldable pub parts : Form (List Part)
-parts = made (listed MAX_PARTS part) (λ parts. parts) parts_from FitParts
+parts = made (listed MOST_PARTS part) (λ parts. parts) parts_from FitParts
 
 -- ---- changes
 
@@ -77,7 +82,8 @@ update_at =
     (at_tag 4 (read_as long (λ ticks. act.Open ticks))
     (at_tag 5 (read_as long (λ session. act.Ping session))
     (at_tag 6 (read_as long (λ session. act.Close session))
-    (at_tag 7 (read_as empty (λ _. act.Tick)) no_tag)))))))
+    (at_tag 7 (read_as empty (λ _. act.Tick))
+    (at_tag 8 (read_as set_acl (λ s. act.SetAcl s)) no_tag))))))))
 
 abbrev pub update_spelled : Update → Spelled ℕ
 update_spelled (act.Create c) = behind 0 create c
@@ -88,6 +94,7 @@ update_spelled (act.Open ticks) = behind 4 long ticks
 update_spelled (act.Ping session) = behind 5 long session
 update_spelled (act.Close session) = behind 6 long session
 update_spelled act.Tick = behind 7 empty tt
+update_spelled (act.SetAcl s) = behind 8 set_acl s
 
 unfoldable pub update : Form Update
 update = by_tag (number w8) update_at update_spelled

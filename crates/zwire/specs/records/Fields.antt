@@ -10,7 +10,7 @@ use Rattle.zjute.specs.Shapes.{Spelled, behind, read_as, by_tag}
 use Rattle.zpath.specs.declared.limits.TheConstants.{MAX_TEXT_LEN}
 use Rattle.zpath.specs.Grammar.{IsPath, text_of}
 use Rattle.zpath.specs.Faults.{fault_of, names_of}
-use Rattle.ztree.specs.declared.limits.TheConstants.{MAX_DATA, MAX_TTL}
+use Rattle.ztree.specs.declared.limits.TheConstants.{MOST_DATA, MAX_TTL}
 use Rattle.ztree.specs.Tree.{Path}
 use Rattle.zcalls.specs.declared.call.Expected.{Expected}
 use Rattle.zcalls.specs.declared.call.Expected.TheVariants.{Any, Exactly}
@@ -41,7 +41,7 @@ long = number w64
 
 -- data
 unfoldable pub content : Form (List ℕ)
-content = sized MAX_DATA
+content = sized MOST_DATA
 
 -- the path with this text
 unfoldable pub path_from : List ℕ → Result Path Fault

@@ -68,7 +68,7 @@ config = message.Config 2 (Some 1) (Some 3)
 abbrev pub no_chain : Bare
 no_chain = message.Config 258 None None
 
--- the stat with the numbers from 1 to 10
+-- the stat with the numbers from 1 to 11
 abbrev pub some_stat : Stat
 some_stat = record {
   czxid = 1;
@@ -78,7 +78,8 @@ some_stat = record {
   mtime = 5;
   version = 6;
   cversion = 7;
-  owner = 8;
-  length = 9;
-  children = 10;
+  aversion = 8;
+  owner = 9;
+  length = 10;
+  children = 11;
 }

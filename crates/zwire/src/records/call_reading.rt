@@ -1,15 +1,15 @@
 //! Calls that change the tree, read from the front of bytes with what follows them.
 
 ghost use Rattle.std.specs.Prelude.{◌≡◌, ◌≤◌, length, IfOk};
-ghost use Rattle.zcalls.specs.declared.limits.TheConstants.{MAX_PARTS};
+ghost use Rattle.zcalls.specs.declared.limits.TheConstants.{MOST_PARTS};
 ghost use Rattle.zcodec.specs.Forms.{times};
 ghost use Rattle.zcodec.specs.Readers.{Reads, Gives};
-ghost use Rattle.zwire.specs.records.Calls.{create, delete, set_data, check, part_at, part, parts_from};
+ghost use Rattle.zwire.specs.records.Calls.{create, delete, set_data, set_acl, check, part_at, part, parts_from};
 ghost use Rattle.zwire.specs.records.Calls.{parts, update_at, update};
 
 use crate::records::field_reading::{content_of, kind_in, path_of, version_in};
 use std::alloc::Global;
-use zcalls::{Check, Create, Delete, MAX_PARTS, Multi, Part, SessionId, SetData, Update};
+use zcalls::{Check, Create, Delete, MOST_PARTS, Multi, Part, SessionId, SetAcl, SetData, Update};
 use zcodec::{Fault, ReadError, u8_at, u32_at, u64_at};
 
 // Reads a create.
@@ -55,6 +55,16 @@ fn set_data_of(alloc: Global, bytes: &[u8]) -> Result<(SetData, &[u8]), ReadErro
         version,
     };
     Ok((set, rest))
+}
+
+// Reads a write of an access control list.
+#[tactic(auto, unfolding(crate::specs::records::Calls::set_acl))]
+fn set_acl_of(alloc: Global, bytes: &[u8]) -> Result<(SetAcl, &[u8]), ReadError>
+    ensures { Gives (λ x. (x.0, x.1.now)) result (set_acl.read bytes.now) }
+{
+    let (path, rest) = path_of(alloc, bytes)?;
+    let (version, rest) = version_in(rest)?;
+    Ok((SetAcl { path, version }, rest))
 }
 
 // Reads a check.
@@ -106,7 +116,7 @@ fn multi_of(alloc: Global, bytes: &[u8]) -> Result<(Multi, &[u8]), ReadError>
     ensures { Gives (λ x. (x.0, x.1.now)) result (parts.read bytes.now) }
 {
     let (count, rest) = u32_at(bytes)?;
-    if count > MAX_PARTS as u32 {
+    if count > MOST_PARTS as u32 {
         return Err(ReadError::Fault(Fault::Long));
     }
     let (parts, rest) = counted_parts(alloc, count, rest)?;
@@ -116,9 +126,9 @@ fn multi_of(alloc: Global, bytes: &[u8]) -> Result<(Multi, &[u8]), ReadError>
 
 // Reads that many parts.
 fn counted_parts(alloc: Global, count: u32, bytes: &[u8]) -> Result<(Vec<Part>, &[u8]), ReadError>
-    requires { count ≤ MAX_PARTS }
+    requires { count ≤ MOST_PARTS }
     ensures parts { Gives (λ x. (x.0.items, x.1.now)) result ((times part count).read bytes.now) }
-    ensures few { IfOk result (λ x. length x.0.items ≤ MAX_PARTS) }
+    ensures few { IfOk result (λ x. length x.0.items ≤ MOST_PARTS) }
 {
     let mut parts = Vec::new(alloc);
     let mut rest = bytes;
@@ -132,10 +142,10 @@ fn counted_parts(alloc: Global, count: u32, bytes: &[u8]) -> Result<(Vec<Part>, 
 
 // Returns the multi of these parts.
 fn multi_with(parts: Vec<Part>) -> Result<Multi, Fault>
-    requires { length parts.items ≤ MAX_PARTS }
+    requires { length parts.items ≤ MOST_PARTS }
     ensures { Reads (λ it. it) result (parts_from parts.items) }
 {
-    match Multi::new(parts) {
+    match Multi::within(parts, MOST_PARTS) {
         Ok(multi) => Ok(multi),
         Err(_) => Err(Fault::Invalid),
     }
@@ -173,6 +183,7 @@ fn update_behind(alloc: Global, tag: u8, bytes: &[u8]) -> Result<(Update, &[u8])
             Ok((Update::Close(SessionId::new(session)), rest))
         }
         7 => Ok((Update::Tick, bytes)),
+        8 => a!(Update::SetAcl, set_acl_of(alloc, bytes)),
         _ => Err(ReadError::Fault(Fault::Invalid)),
     }
 }

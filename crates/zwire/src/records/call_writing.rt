@@ -3,13 +3,13 @@
 
 ghost use Rattle.std.specs.Prelude.{◌≡◌, ◌++◌, OnOk};
 ghost use Rattle.std.specs.List.{AllByRecursion, flat_map};
-ghost use Rattle.zwire.specs.records.Calls.{create as create_form, delete as delete_form, set_data};
+ghost use Rattle.zwire.specs.records.Calls.{create as create_form, delete as delete_form, set_data, set_acl};
 ghost use Rattle.zwire.specs.records.Calls.{check as check_form, part as part_form, parts as parts_form};
 ghost use Rattle.zwire.specs.records.Calls.{update as update_form};
 
 use crate::records::field_writing::{put_content, put_kind, put_path, put_version};
 use std::alloc::{AllocError, Global};
-use zcalls::{Check, Create, Delete, Multi, Part, SetData, Update};
+use zcalls::{Check, Create, Delete, Multi, Part, SetAcl, SetData, Update};
 use zcodec::{put_u8, put_u32, put_u64};
 
 // Writes a create.
@@ -42,6 +42,16 @@ fn put_set_data(alloc: Global, out: &mut Vec<u8>, set: &SetData) -> Result<(), A
     put_path(alloc, out, &set.path)?;
     put_version(out, set.version)?;
     put_content(out, &set.bytes)
+}
+
+// Writes a write of an access control list.
+#[tactic(auto, unfolding(crate::specs::records::Calls::set_acl))]
+fn put_set_acl(alloc: Global, out: &mut Vec<u8>, set: &SetAcl) -> Result<(), AllocError>
+    ensures text { OnOk result (out.new.items ≡ out.old.items ++ set_acl.spell set.now) }
+    ensures fits { OnOk result (set_acl.Fits set.now) }
+{
+    put_path(alloc, out, &set.path)?;
+    put_version(out, set.version)
 }
 
 // Writes a check.
@@ -139,5 +149,9 @@ pub fn put_update(alloc: Global, out: &mut Vec<u8>, update: &Update) -> Result<(
             put_u64(out, session.number())
         }
         Update::Tick => put_u8(out, 7),
+        Update::SetAcl(set) => {
+            put_u8(out, 8)?;
+            put_set_acl(alloc, out, set)
+        }
     }
 }

@@ -13,7 +13,7 @@ use zcalls::{Data, Expected, Kind, Lifetime, SessionId, Ttl};
 use zcodec::{Fault, ReadError, sized_at, u8_at, u64_at};
 use zpath::{MAX_TEXT_LEN, Path, PathFault};
 use ztree::DataFault;
-use ztree::limits::MAX_DATA;
+use ztree::limits::MOST_DATA;
 
 /// Reads a TTL.
 #[tactic(auto, unfolding(crate::specs::records::Fields::ttl))]
@@ -32,8 +32,8 @@ fn ttl_at(bytes: &[u8]) -> Result<(Ttl, &[u8]), Fault>
 pub fn content_of(alloc: Global, bytes: &[u8]) -> Result<(Data, &[u8]), ReadError>
     ensures { Gives (λ x. (x.0, x.1.now)) result (content.read bytes.now) }
 {
-    let (bytes, rest) = sized_at(MAX_DATA as u32, bytes)?;
-    match Data::new(alloc, Vec::from_slice(alloc, bytes)?) {
+    let (bytes, rest) = sized_at(MOST_DATA as u32, bytes)?;
+    match Data::within(alloc, Vec::from_slice(alloc, bytes)?, MOST_DATA) {
         Ok(content) => Ok((content, rest)),
         Err(DataFault::Memory) => Err(ReadError::Memory),
         Err(DataFault::TooLong) => unreachable!(),

@@ -6,7 +6,7 @@ ghost use Rattle.zwire.specs.declared.records.limits.TheConstants.{MAX_ROW_BYTES
 use crate::records::limits::MAX_ROW_BYTES;
 use std::marker::Model;
 
-/// The bytes of a row of a snapshot: at most 66,652 of them.
+/// The bytes of a row of a snapshot: at most `MAX_ROW_BYTES` of them.
 #[derive(Debug, Drop)]
 pub struct Row {
     bytes: Vec<u8>,
@@ -24,7 +24,7 @@ impl Model for Row {
 }
 
 impl Row {
-    /// Returns the row with these bytes, or `None` if there are more than 66,652.
+    /// Returns the row with these bytes, or `None` if there are more than `MAX_ROW_BYTES`.
     pub fn new(bytes: Vec<u8>) -> Option<Row>
         ensures taken { IfSome result (λ r. r ≡ bytes.items) }
         ensures fits { OnSome result (length bytes.items ≤ MAX_ROW_BYTES) }

@@ -5,7 +5,7 @@ ghost use Rattle.zcodec.specs.declared.fault.Fault.TheVariants.{Short, Long, Inv
 ghost use Rattle.zcodec.specs.Readers.{whole};
 ghost use Rattle.zwire.specs.declared.records.record.Record.TheVariants.{Fail, Join, Retire, Row};
 ghost use Rattle.zwire.specs.records.Records.{logged, line_of, text_of, IsBadLine};
-ghost use Rattle.zwire.specs.records.support.Samples.{password, create, create_for_7, create_container, delete, set_root};
+ghost use Rattle.zwire.specs.records.support.Samples.{password, create, create_for_7, create_container, delete, set_root, set_acl};
 ghost use Rattle.zwire.specs.records.support.Samples.{multi, open_for_10, ping, close, tick};
 
 /// The bytes of changes of nodes, after the two tags of each.
@@ -20,6 +20,8 @@ pub fn changes_have_bytes()
     ensures delete { logged.spell delete
         ≡ 1 ∷ 1 ∷ 0 ∷ 0 ∷ 0 ∷ 2 ∷ 47 ∷ 97 ∷ 1 ∷ 0 ∷ 0 ∷ 0 ∷ 0 ∷ 0 ∷ 0 ∷ 0 ∷ 3 ∷ [] }
     ensures set { logged.spell set_root ≡ 1 ∷ 2 ∷ 0 ∷ 0 ∷ 0 ∷ 1 ∷ 47 ∷ 0 ∷ 0 ∷ 0 ∷ 0 ∷ 0 ∷ [] }
+    ensures set_acl { logged.spell set_acl
+        ≡ 1 ∷ 8 ∷ 0 ∷ 0 ∷ 0 ∷ 2 ∷ 47 ∷ 97 ∷ 1 ∷ 0 ∷ 0 ∷ 0 ∷ 0 ∷ 0 ∷ 0 ∷ 0 ∷ 3 ∷ [] }
     ensures multi { logged.spell multi
         ≡ 1 ∷ 3 ∷ 0 ∷ 0 ∷ 0 ∷ 2 ∷ 3 ∷ 0 ∷ 0 ∷ 0 ∷ 2 ∷ 47 ∷ 97 ∷ 0
         ∷ 0 ∷ 0 ∷ 0 ∷ 0 ∷ 2 ∷ 47 ∷ 98 ∷ 4 ∷ 0 ∷ 0 ∷ 0 ∷ 0 ∷ 0 ∷ 0 ∷ 0 ∷ 5
@@ -55,11 +57,17 @@ pub fn bytes_are_records()
     ensures read { whole logged (1 ∷ 7 ∷ []) ≡ Ok tick }
     ensures no_bytes { whole logged [] ≡ Err Short }
     ensures other_tag { whole logged (6 ∷ []) ≡ Err Invalid }
-    ensures long_row { whole logged (5 ∷ 0 ∷ 1 ∷ 4 ∷ 93 ∷ []) ≡ Err Long }
+    ensures longest_row { whole logged (5 ∷ 0 ∷ 16 ∷ 20 ∷ 22 ∷ []) ≡ Err Short }
+    ensures long_row { whole logged (5 ∷ 0 ∷ 16 ∷ 20 ∷ 23 ∷ []) ≡ Err Long }
+    ensures longest_data { whole logged (1 ∷ 2 ∷ 0 ∷ 0 ∷ 0 ∷ 1 ∷ 47 ∷ 0 ∷ 0 ∷ 16 ∷ 0 ∷ 0 ∷ [])
+        ≡ Err Short }
+    ensures long_data { whole logged (1 ∷ 2 ∷ 0 ∷ 0 ∷ 0 ∷ 1 ∷ 47 ∷ 0 ∷ 0 ∷ 16 ∷ 0 ∷ 1 ∷ [])
+        ≡ Err Long }
     ensures short_row { whole logged (5 ∷ 0 ∷ 0 ∷ 0 ∷ 2 ∷ 7 ∷ []) ≡ Err Short }
-    ensures other_change { whole logged (1 ∷ 8 ∷ []) ≡ Err Invalid }
+    ensures other_change { whole logged (1 ∷ 9 ∷ []) ≡ Err Invalid }
     ensures no_parts { whole logged (1 ∷ 3 ∷ 0 ∷ 0 ∷ 0 ∷ 0 ∷ []) ≡ Err Invalid }
-    ensures many_parts { whole logged (1 ∷ 3 ∷ 0 ∷ 0 ∷ 0 ∷ 65 ∷ []) ≡ Err Long }
+    ensures most_parts { whole logged (1 ∷ 3 ∷ 0 ∷ 0 ∷ 4 ∷ 0 ∷ []) ≡ Err Short }
+    ensures many_parts { whole logged (1 ∷ 3 ∷ 0 ∷ 0 ∷ 4 ∷ 1 ∷ []) ≡ Err Long }
     ensures no_server { whole logged (2 ∷ 0 ∷ []) ≡ Err Invalid }
     ensures server_17 { whole logged (2 ∷ 17 ∷ []) ≡ Err Invalid }
     ensures relative_path { whole logged (1 ∷ 1 ∷ 0 ∷ 0 ∷ 0 ∷ 1 ∷ 97 ∷ 0 ∷ []) ≡ Err Invalid }

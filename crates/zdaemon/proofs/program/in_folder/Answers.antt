@@ -17,14 +17,7 @@ returns-in-Ok-clause-begins g c =
       device = c.in_ok-device.device;
       opened = (c.in_ok-device.ensures.mode, c.in_ok-device.ensures.fresh);
       first = first;
-      begins = record {
-        batches = serving.0;
-        tree = serving.1;
-        stands = serving.2;
-        serving = serving.3;
-        front = serving.4;
-        measured = c.in-Ok.ensures.measured;
-      };
+      begins = record { opened = serving.0; front = serving.1 };
       mended =
           subst (λ (kept : DurableFront (FileDevice g.row.R.Denot)). IsMended seen_of MayLeaveOf (had_failed_of (disk_of first)) first kept)
           (sym c.new.ensures.kept) c.in_ok-write_anew-in-Ok.ensures.mended;

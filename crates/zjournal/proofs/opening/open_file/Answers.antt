@@ -6,6 +6,7 @@ use Rattle.zjournal.proofs.Readings.{kept_is_made}
 use Rattle.zjournal.specs.declared.reading.Found.TheVariants.{Unmade, Unopened, Cached}
 use Rattle.zjournal.proofs.Files.{keeps, first_place, made_texts}
 use Rattle.zjournal.proofs.Opens.{found_format, found_of, opened_head, closed_stands, unopened_leaves, kept_leaves}
+use Rattle.std.proofs.lemmas.Result.{err_from_is_err_and}
 use Rattle.zjournal.proofs.opening.open_file.Goals as goal
 
 pub returns-in-Unmade-clause-read : goal.returns-in-Unmade-clause-read
@@ -131,3 +132,8 @@ returns-clause-new_format g c unmade =
     (c.deref.ensures.value ∙ c.in_ok-bytes.ensures.bytes) c.in-Cached.is c.in_ok-look.ensures.ok in
     absurd (kept_is_made c.args.servers (g.D.Device.seen c.args.device.now) found.0
     (keeps c.args.servers found.0 (g.D.Device.seen c.args.device.now) c.in-Cached.place found.1) (inl unmade))
+
+pub returns-in_err-look-clause-fault : goal.returns-in_err-look-clause-fault
+returns-in_err-look-clause-fault g c =
+    let p = err_from_is_err_and c.from_residual-in_err-look.result c.from_residual-in_err-look.ensures.1 in
+    rw (p.1, p.2, sym (c.deref.ensures.value ∙ c.in_ok-bytes.ensures.bytes)) c.in_err-look.ensures.err

@@ -1,6 +1,7 @@
 use Rattle.std.proofs.Common.{◌∙◌, inl, inr, refl, sym, []}
 use Rattle.zjournal.proofs.Files.{head_end, keeps, same_end}
 use Rattle.zjournal.proofs.Opens.{found_of, only_read, only_left}
+use Rattle.std.proofs.lemmas.Result.{err_from_is_err_and}
 use Rattle.zjournal.proofs.opening.read_text.Goals as goal
 
 pub returns-in-Unmade-clause-text : goal.returns-in-Unmade-clause-text
@@ -79,3 +80,8 @@ returns-clause-any_moment g c =
     only_read g.D.Device.seen g.D.Device.may_leave g.D.Device.moment g.D.Device.left_since c.args.device.now c.read.new.self
     c.requires.durable c.read.ensures.crash
     (g.met.D.Device.only_now c.args.device.now) c.read.ensures.time
+
+pub returns-in_err-look-clause-fault : goal.returns-in_err-look-clause-fault
+returns-in_err-look-clause-fault g c =
+    let p = err_from_is_err_and c.from_residual-in_err-look.result c.from_residual-in_err-look.ensures.1 in
+    rw (p.1, p.2, sym (c.deref.ensures.value ∙ c.in_ok-bytes.ensures.bytes)) c.in_err-look.ensures.err

@@ -2,6 +2,7 @@ use Rattle.std.proofs.Common.{ap, arith, subst, sym, ◌∙◌, refl, Some, Ok}
 use Rattle.std.proofs.lemmas.Result.{err_from_is_err_and}
 use Rattle.std.specs.Option.{option_and_then}
 use Rattle.std.specs.FinMap as finite
+use Rattle.ztree.specs.declared.limits.TreeLimits.{TreeLimits}
 use Rattle.ztree.specs.Lawful.{IsPersistent, IsOwner}
 use Rattle.ztree.specs.Tree.{has_node, parent_of, with_node}
 use Rattle.zcalls.specs.declared.change.ChangeReply.TheVariants.{Created}
@@ -67,15 +68,16 @@ returns-then-is_some-clause-stopped c =
     created-refused c.args.store.now.tree c.args.client c.args.create.now _
     (taken c.args.store.now.tree c.args.client c.args.create.now owner below.root there owned c.in_ok-made.made c.in_ok-made.ensures.made c.in_ok-made.ensures.allowed here)
 
-pub returns-then-nodes-ge-MAX_NODES-clause-stopped : goal.returns-then-nodes-ge-MAX_NODES-clause-stopped
-returns-then-nodes-ge-MAX_NODES-clause-stopped c =
+pub returns-then-nodes-limits-clause-stopped : goal.returns-then-nodes-limits-clause-stopped
+returns-then-nodes-limits-clause-stopped c =
     let last = rw c.in-Some.is at c.in_ok-above.ensures.front in
     let below = below c.args.create.now.path c.in-Some.above last.0 last.1 in
     let nodes = c.args.store.now.tree.nodes in
     let there = ap (has_node nodes) below.parent ∙ sym c.in-Some-find.ensures.node in
     let owned = ap (node_has is_owned nodes) below.parent ∙ sym (c.is_ephemeral.ensures c.in-Some.above c.in-Some-find.ensures.found) ∙ c.if-is_ephemeral.false in
     let free = sym c.find-2.ensures.node ∙ sym c.is_some.ensures ∙ c.if-is_some.false in
-    let many = at_least 4096 _ (rw c.nodes.ensures at c.if-nodes-ge-MAX_NODES.true) in
+    let most = ap (λ (l : TreeLimits). l.nodes) c.limits.ensures in
+    let many = at_least c.args.store.now.tree.limits.nodes (finite.len nodes) (omega (arith, c.nodes.ensures, most, c.if-nodes-limits.true)) in
     let owner = sym c.has_no_owner.ensures ∙ c.if-has_no_owner.false in
     created-refused c.args.store.now.tree c.args.client c.args.create.now _
     (full c.args.store.now.tree c.args.client c.args.create.now owner below.root there owned c.in_ok-made.made c.in_ok-made.ensures.made c.in_ok-made.ensures.allowed free many)
@@ -103,7 +105,8 @@ returns-clause-done c =
     let there = ap (has_node nodes) below.parent ∙ sym c.in-Some-find.ensures.node in
     let owned = ap (node_has is_owned nodes) below.parent ∙ sym (c.is_ephemeral.ensures c.in-Some.above c.in-Some-find.ensures.found) ∙ c.if-is_ephemeral.false in
     let free = sym c.find-2.ensures.node ∙ sym c.is_some.ensures ∙ c.if-is_some.false in
-    let few = less_than 4096 _ (rw c.nodes.ensures at c.if-nodes-ge-MAX_NODES.false) in
+    let most = ap (λ (l : TreeLimits). l.nodes) c.limits.ensures in
+    let few = less_than c.args.store.now.tree.limits.nodes (finite.len nodes) (omega (arith, c.nodes.ensures, most, c.if-nodes-limits.false)) in
     let owner = sym c.has_no_owner.ensures ∙ c.if-has_no_owner.false in
     let t = c.args.store.now.tree in
     let create = c.args.create.now in

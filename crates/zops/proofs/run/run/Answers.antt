@@ -1,6 +1,7 @@
 use Rattle.std.proofs.Common.{◌≡◌, ◌+◌, ◌*◌, [], ◌∷◌, ◌++◌, ◌<◌, ◌^◌, Err, List, ℕ, length, drop, get_or, ap, sym, subst, ◌∙◌, arith}
 use Rattle.std.proofs.lemmas.List.{length-append, drop_more, drop_all}
 use Rattle.zcalls.specs.declared.call.Part.{Part}
+use Rattle.zcalls.specs.declared.limits.TheConstants.{MAX_RAISES}
 use Rattle.zcalls.specs.support.Alone.{ChangesNodesAlone}
 use Rattle.zcalls.specs.Multi.{run}
 use Rattle.zcalls.proofs.Bounds.{IsWithinAll, part_roomy, within_more, has_room}
@@ -35,10 +36,10 @@ part-requires c =
     let here = c.loop-wanted.invariant in
     let bounded = c.requires.ready.steady.bounded in
     let steps = ap length (next c.args.parts.now c.loop-wanted.wanted-index c.wanted-item.result c.loop-wanted-test.true c.wanted-item.is) in
-    let few : 4096 * c.args.store.now.tree.zxid + length c.loop-wanted.replies.items + 1 < 2 ^ 62 = omega (arith, here.count, c.requires.few, bounded.zxid) in
+    let few : MAX_RAISES * c.args.store.now.tree.zxid + length c.loop-wanted.replies.items + 1 < 2 ^ 62 = omega (arith, here.count, c.requires.few, bounded.zxid) in
     record {
       ready = record {
-        counters = λ path n e. has_room (4096 * c.args.store.now.tree.zxid + length c.loop-wanted.replies.items) n few (here.within path n e);
+        counters = λ path n e. has_room (MAX_RAISES * c.args.store.now.tree.zxid + length c.loop-wanted.replies.items) n few (here.within path n e);
         zxid = rw here.stays.zxid c.requires.ready.zxid;
         given = let left = c.requires.ready.steady.given in let more = here.given in omega (arith, steps, here.count, c.requires.few, left, more);
       };

@@ -2,7 +2,7 @@ use Rattle.std.proofs.Common.{sym, subst, ◌∙◌, ap, arith}
 use Rattle.ztree.specs.Tree.{with_next_zxid, parent_of}
 use Rattle.zcalls.specs.Bounds.{IsBounded}
 use Rattle.zcalls.proofs.Ends.{ended-ends, few_ephemerals}
-use Rattle.zcalls.proofs.Timed.{ended_bounded}
+use Rattle.zcalls.proofs.Timed.{ended_bounded, few_nodes}
 use Rattle.zops.proofs.session_calls.close.Goals as goal
 
 pub end_session-requires-clause-counters : goal.end_session-requires-clause-counters
@@ -10,7 +10,7 @@ end_session-requires-clause-counters c path n e owned parent found =
     let t = c.args.store.now.tree in
     let here = (c.requires.steady.bounded.counters (parent_of path) parent found).cversion in
     let gone = few_ephemerals t.nodes c.args.session in
-    let few = c.keeps_lawful.ensures.few_nodes in
+    let few = few_nodes t c.keeps_lawful.ensures in
     let room = c.requires.zxid in
     omega (arith, here, gone, few, room)
 

@@ -6,7 +6,9 @@ use Rattle.ztree.proofs.Ending.{found-ended}
 use Rattle.zstore.specs.StoreView.{while_there}
 use Rattle.ztree.specs.Tree.{Tree, parent_of, has_node}
 use Rattle.ztree.specs.Sessions.{without_session, without_sessions}
+use Rattle.zcalls.specs.declared.limits.TheConstants.{MAX_RAISES}
 use Rattle.zcalls.proofs.Ends.{RoomForEnds, AreLive, room_before, ended-room, few_ephemerals, ended-ends, due_live}
+use Rattle.zcalls.proofs.Timed.{few_nodes}
 use Rattle.zops.proofs.session_calls.end_all.Goals as goal
 
 pub loop-id-init : goal.loop-id-init
@@ -15,7 +17,7 @@ loop-id-init c =
     let all = c.into_iter-id-iterator.ensures.into_iter_gives.0 in
     record {
       did = ap (without_sessions t) (sym all);
-      room = room_before (4096 * t.zxid) t.nodes c.requires.ready.steady.bounded.counters c.keeps_lawful.ensures.few_nodes;
+      room = room_before (MAX_RAISES * t.zxid) t.nodes c.requires.ready.steady.bounded.counters (few_nodes t c.keeps_lawful.ensures);
       zxid = refl;
       live = subst (AreLive t.sessions) (sym (all ∙ c.requires.due)) (due_live t.sessions (t.time + 1));
       still = λ id path at there. at;
@@ -39,7 +41,7 @@ loop-id-preserved c =
     let now = c.end_session.ensures.tree in
     record {
       did = here.did ∙ ap (without_sessions before) steps ∙ ap (λ (u : Tree). without_sessions u rest) (sym now);
-      room = subst (λ (u : Tree). RoomForEnds (4096 * c.args.store.now.tree.zxid + 4096) u.nodes) (sym now) (ended-room (4096 * c.args.store.now.tree.zxid + 4096) before id here.room);
+      room = subst (λ (u : Tree). RoomForEnds (MAX_RAISES * c.args.store.now.tree.zxid + MAX_RAISES) u.nodes) (sym now) (ended-room (MAX_RAISES * c.args.store.now.tree.zxid + MAX_RAISES) before id here.room);
       zxid = ap (λ (u : Tree). u.zxid) now ∙ (ended-ends before id).zxid ∙ here.zxid;
       live = subst (λ (u : Tree). AreLive u.sessions rest) (sym now) (subst (AreLive before.sessions) steps here.live).1;
       still = λ q path at there.

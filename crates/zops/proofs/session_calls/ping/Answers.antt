@@ -12,3 +12,12 @@ returns-clause-left c =
       bounded = subst IsBounded (sym kept) (touched_bounded c.args.store.now.tree c.args.session c.requires.bounded);
       given = let same = c.keep_alive.ensures.same.1 in omega (arith, same);
     }
+
+-- a session that is there was granted a timeout that a tree can have
+pub keep_alive-requires : goal.keep_alive-requires
+keep_alive-requires c = record {
+  deadline = λ s e.
+      let here = c.requires.bounded.sessions c.args.session s e in
+      let most = c.keeps_lawful.ensures.allowed.most_timeout in
+      (omega (arith, here.least), omega (arith, here.most, most, c.requires.bounded.time));
+}

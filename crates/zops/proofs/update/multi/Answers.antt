@@ -1,6 +1,7 @@
 use Rattle.std.proofs.Common.{◌≡◌, ◌+◌, ◌*◌, false, true, Result, Ok, Err, IfOk, OnErr, length, subst, sym, ap, ◌∙◌, arith}
 use Rattle.ztree.specs.Lawful.{AllNodes}
 use Rattle.zcalls.specs.declared.reply.Reply.TheVariants.{MultiRefused}
+use Rattle.zcalls.specs.declared.limits.TheConstants.{MAX_RAISES, MOST_PARTS}
 use Rattle.zcalls.specs.Bounds.{IsBounded, IsWithin}
 use Rattle.zcalls.specs.support.Alone.{ChangesNodesAlone}
 use Rattle.ztree.specs.Tree.{Tree}
@@ -40,9 +41,9 @@ returns-in-Ok-clause-left c =
     let stays = c.in-Ok.ensures.stays in
     record {
       bounded = subst IsBounded (sym c.raise.ensures.tree)
-          (raised_bounded t c.run.new.store.tree (4096 * t.zxid + 64) c.requires.steady.bounded c.requires.zxid (omega arith)
+          (raised_bounded t c.run.new.store.tree (MAX_RAISES * t.zxid + MOST_PARTS) c.requires.steady.bounded c.requires.zxid (omega arith)
           (subst (λ t. ChangesNodesAlone t c.run.new.store.tree) here.tree stays.alone)
-          (subst (λ t. AllNodes (IsWithin (4096 * t.zxid + 64)) c.run.new.store.tree.nodes) here.tree stays.within));
+          (subst (λ t. AllNodes (IsWithin (MAX_RAISES * t.zxid + MOST_PARTS)) c.run.new.store.tree.nodes) here.tree stays.within));
       given = let same = c.raise.ensures.same.1 in let more = c.run.ensures.given in let before = here.same.1 in omega (arith, same, more, before);
     }
 

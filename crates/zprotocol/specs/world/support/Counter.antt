@@ -21,7 +21,7 @@ name_reply count = Created ((count ∷ []) ∷ [])
 -- the answer to a query after this many updates
 abbrev pub count_reply : ℕ → Reply
 count_reply count =
-    Exists (record { czxid = 0; mzxid = 0; pzxid = 0; ctime = 0; mtime = 0; version = 0; cversion = 0; owner = 0; length = 0; children = count })
+    Exists (record { czxid = 0; mzxid = 0; pzxid = 0; ctime = 0; mtime = 0; version = 0; cversion = 0; aversion = 0; owner = 0; length = 0; children = count })
 
 -- an update counts, and a query doesn't
 abbrev pub count_step : ℕ → ℕ → Call → ℕ × Reply

@@ -8,7 +8,9 @@
 
 ghost use Rattle.std.specs.Prelude.{◌≡◌, ◌≤◌, ℕ, [], ◌∷◌, None, Some};
 ghost use Rattle.std.specs.FinMap.{get};
-ghost use Rattle.ztree.specs.Tree.{Tree, opening_tree};
+ghost use Rattle.ztree.specs.Limits.{AreLimits};
+ghost use Rattle.ztree.specs.Tree.{Tree, opening_within, opening_tree};
+ghost use Rattle.ztree.specs.declared.limits.TreeLimits.{TreeLimits};
 ghost use Rattle.ztree.specs.declared.session.Session.{Session};
 ghost use Rattle.zcalls.specs.declared.call.Query.{Query};
 ghost use Rattle.zcalls.specs.declared.reply.Reply.{Reply};
@@ -27,12 +29,15 @@ ghost use Rattle.zprotocol.specs.world.FromTree.{CanStart, IsExplainedFrom};
 ghost use Rattle.zprotocol.specs.world.FromTree.{opening_world_from, world_after_from};
 ghost use Rattle.zprotocol.specs.world.support.OrderRows.{query_of};
 
-/// Trees that a chain can begin with: the initial one can; no session of any has a timeout that
-/// isn't granted, or an id above the last change.
+/// Trees that a chain can begin with: the initial one can, within any limits that a tree can have.
+/// No session of any has a timeout that isn't granted, or an id above the last change.
 pub fn trees_can_start()
     ensures initial { CanStart opening_tree }
+    ensures within { (limits : TreeLimits) → AreLimits limits → CanStart (opening_within limits) }
     ensures timeout { (t : Tree) (id : ℕ) (s : Session)
         → CanStart t → get t.sessions id ≡ Some s → 2 ≤ s.timeout }
+    ensures most { (t : Tree) (id : ℕ) (s : Session)
+        → CanStart t → get t.sessions id ≡ Some s → s.timeout ≤ t.limits.timeout }
     ensures id { (t : Tree) (id : ℕ) (s : Session)
         → CanStart t → get t.sessions id ≡ Some s → id ≤ t.zxid }
 {}

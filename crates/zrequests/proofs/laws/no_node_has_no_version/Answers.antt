@@ -3,5 +3,7 @@ use Rattle.zrequests.proofs.laws.no_node_has_no_version.Goals as goal
 
 pub returns : goal.returns
 returns c = λ t path n bounded found.
-    let within : n.version ≤ 4096 * t.zxid = (bounded.counters path n found).version in
-    omega arith
+    let is = bounded.counters path n found in
+    let version : n.version ≤ 2097152 * t.zxid = is.version in
+    let acl : n.aversion ≤ 2097152 * t.zxid = is.aversion in
+    (omega arith, omega arith)

@@ -21,6 +21,6 @@ counted n c = record c {
 
 -- each of them can rise
 pub record HasRoom (c : TreeCounts) : Type 0 where
-  pub bytes : c.bytes ≤ 2 ^ 40
+  pub bytes : c.bytes ≤ 2 ^ 41
   pub ephemerals : c.ephemerals ≤ 2 ^ 40
   pub counters : c.counters ≤ 2 ^ 40

@@ -5,6 +5,7 @@ use Rattle.ztree.specs.declared.term.Term.{Term}
 use Rattle.ztree.specs.declared.term.Term.TheVariants.{Unlimited, Timed, Container}
 use Rattle.ztree.specs.declared.node.Node.{Node}
 use Rattle.ztree.specs.declared.session.Session.{Session}
+use Rattle.ztree.specs.Limits.{profile}
 use Rattle.ztree.specs.Tree.{Tree, new_node}
 use Rattle.ztree.specs.support.Samples.{a, at_a, at_a_b, b}
 use Rattle.zsnapshots.specs.declared.export.tally.TreeCounts.{TreeCounts}
@@ -23,6 +24,7 @@ timed_tree = record {
   sessions = finite.empty;
   time = 30;
   zxid = 40;
+  limits = profile;
 }
 
 -- a root without data, and beneath it a node of session 9
@@ -33,6 +35,7 @@ owned_tree = record {
   sessions = finite.insert finite.empty 9 (record { client = 0; timeout = 5; deadline = 33 });
   time = 30;
   zxid = 40;
+  limits = profile;
 }
 
 -- the counts of that tree, and a folder of it

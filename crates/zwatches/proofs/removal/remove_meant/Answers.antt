@@ -1,20 +1,19 @@
-use Rattle.std.proofs.Common.{◌≡◌, ℕ, ◌-◌, ◌∙◌, length, ap, sym, subst, not, arith}
-use Rattle.zwatches.specs.Removal.{is_meant}
-use Rattle.zwatches.specs.support.Groups.{AreRows}
-use Rattle.zwatches.specs.support.Shares.{AreCounted, changed_by}
-use Rattle.zwatches.proofs.Counts.{counted_rest, meant_own}
-use Rattle.zwatches.proofs.Reporting.{kept_sorted, rest_rows}
+use Rattle.std.proofs.Common.{not, sym, ap, subst, ◌∙◌}
+use Rattle.zwatches.specs.declared.watch.Watch.{Watch}
+use Rattle.zwatches.specs.Watches.{Path, Watches}
+use Rattle.zwatches.specs.Removal.{is_meant, without_meant}
+use Rattle.zwatches.specs.support.Nested.{AreFound}
+use Rattle.zwatches.proofs.Found.{kept_found}
 use Rattle.zwatches.proofs.removal.remove_meant.Goals as goal
+
+pub tidy-requires : goal.tidy-requires
+tidy-requires c =
+    let rows = c.args.paths.now.paths.entries in
+    subst (λ (t : Watches). AreFound rows t) (sym c.remove_each.ensures)
+    (kept_found rows c.args.watches.now (λ (w : Watch). not (is_meant c.args.connection c.args.type_of c.names.result.now w)) c.requires)
 
 pub returns : goal.returns
 returns c = record {
-  rows = subst AreRows (sym c.keep_rest.ensures) (kept_sorted c.args.rows.now.items (λ w. not (is_meant c.args.connection c.args.type_of c.args.names.now w)) c.requires.rows);
-  counted =
-      let k = c.args.connection in
-      let rows = c.args.rows.now.items in
-      let new = c.keep_rest.new.rows.items in
-      let many : c.saturating_sub.result ≡ length rows - length new = omega (arith, c.saturating_sub.ensures, c.len-before.ensures, c.len.ensures) in
-      subst (λ m. AreCounted m new) (sym (c.lower.ensures ∙ ap (λ (n : ℕ). changed_by (λ count. count - n) c.args.shares.now k) many))
-      (counted_rest (is_meant k c.args.type_of c.args.names.now) k (meant_own k c.args.type_of c.args.names.now) c.args.shares.now rows new c.requires.counted c.keep_rest.ensures);
-  gone = rest_rows c.args.rows.now.items c.keep_rest.new.rows.items c.args.connection c.args.type_of c.args.names.now c.keep_rest.ensures;
+  found = c.tidy.ensures;
+  gone = c.remove_each.ensures ∙ ap (λ (p : Path). without_meant c.args.watches.now c.args.connection c.args.type_of p) c.names.ensures.names;
 }

@@ -4,6 +4,7 @@ use Rattle.ztree.specs.support.Samples.{at_a, at_a_b}
 use Rattle.zcalls.specs.declared.call.Create.{Create}
 use Rattle.zcalls.specs.declared.call.Delete.{Delete}
 use Rattle.zcalls.specs.declared.call.SetData.{SetData}
+use Rattle.zcalls.specs.declared.call.SetAcl.{SetAcl}
 use Rattle.zcalls.specs.declared.call.Check.{Check}
 use Rattle.zcalls.specs.declared.call.Lifetime.TheVariants.{Persistent}
 use Rattle.zcalls.specs.Part.{named}
@@ -21,6 +22,9 @@ delete_a_b = record { path = at_a_b; version = Any }
 
 abbrev pub set_a_b : SetData
 set_a_b = record { path = at_a_b; bytes = []; version = Any }
+
+abbrev pub list_a_b : SetAcl
+list_a_b = record { path = at_a_b; version = Any }
 
 abbrev pub check_a_b : Check
 check_a_b = record { path = at_a_b; version = Any }

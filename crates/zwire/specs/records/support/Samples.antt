@@ -47,6 +47,10 @@ multi =
     ∷ []
     ))
 
+-- a write of the access control list of /a, at version 3 of it
+abbrev pub set_acl : Record
+set_acl = Update (act.SetAcl (record { path = a; version = Exactly 3 }))
+
 abbrev pub open_for_10 : Record
 open_for_10 = Update (act.Open 10)
 

@@ -1,5 +1,6 @@
 use Rattle.std.proofs.Common.{◌≡◌, List, ℕ, refl, sym, subst, ◌∙◌}
 use Rattle.zjournal.specs.Device.{LeavesOnly}
+use Rattle.zjournal.specs.Faults.{IsSuch}
 use Rattle.zjournal.specs.Journal.{Represents, device_of}
 use Rattle.zdurable.specs.declared.stored.Stored.{Stored}
 use Rattle.zdurable.proofs.Opening.{read_then}
@@ -38,6 +39,14 @@ returns-clause-untouched g c of_content =
           (subst (λ (b : List ℕ). LeavesOnly g.D.Device.moment g.D.Device.left_since c.look.new.device c.in-Err-open.device (λ d. d ≡ b))
           c.look.ensures.seen left.1),
     )
+
+pub returns-clause-fault : goal.returns-clause-fault
+returns-clause-fault g c =
+    let file = g.D.Device.seen c.args.device in
+    let fault = c.in-Err-open.e in
+    subst (λ (n : ℕ). IsSuch n file fault) c.number.ensures.same
+    (subst (λ (now : List ℕ). IsSuch c.number.result now fault) c.look.ensures.seen
+    c.in-Err-open.ensures.fault)
 
 pub returns-in-Ok-open-clause-stored : goal.returns-in-Ok-open-clause-stored
 returns-in-Ok-open-clause-stored g c =

@@ -13,7 +13,7 @@ returns-in-Ok g c =
     let new = c.make.new.self in
     on_ok c.make.result
     (λ makes.
-    subst (λ (v : FrontView). Acts (calls_in v.clock.tick c.args.session request.asked) at request old new) c.self.view_is
+    subst (λ (v : FrontView). Acts (calls_in v.clock.terms c.args.session request.asked) at request old new) c.self.view_is
     (subst (λ means. Acts means at request old new) (sym c.in-Ok.ensures.found)
     (subst (λ calls. Makes calls at request old new) c.as_slice.ensures makes)))
     c.make.ensures

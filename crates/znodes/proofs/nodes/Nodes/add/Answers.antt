@@ -1,4 +1,4 @@
-use Rattle.std.proofs.Common.{◌≡◌, ◌≤◌, refl, sym, ap, ◌∙◌}
+use Rattle.std.proofs.Common.{◌≡◌, ◌≤◌, refl, sym, ap, ◌∙◌, arith}
 use mathlib.Core.Path.{subst}
 use Rattle.std.specs.FinMap.{insert}
 use Rattle.ztree.specs.Tree.{parent_of}
@@ -15,7 +15,7 @@ abbrev with_index : Inside → IndexView → Inside
 with_index s index = record s { index = index }
 
 -- what the nodes are then, and with the row in
-module _ (s : Inside) (v : NodesView) (view : view_of s ≡ v) (threaded : IsThreaded s.slots.items s.index.ids s.owners s.timed)
+module _ (s : Inside) (v : NodesView) (view : view_of s ≡ v) (threaded : IsThreaded s.slots.items s.index.ids s.owners s.timed s.counts)
     (index : IndexView) (ids : index.ids ≡ s.index.ids) where
   roomy : SameButRoom v (view_of (with_index s index))
   roomy =
@@ -29,8 +29,8 @@ module _ (s : Inside) (v : NodesView) (view : view_of s ≡ v) (threaded : IsThr
         room = index.room;
       }
 
-  threaded-still : IsThreaded s.slots.items index.ids s.owners s.timed
-  threaded-still = subst (λ m. IsThreaded s.slots.items m s.owners s.timed) (sym ids) threaded
+  threaded-still : IsThreaded s.slots.items index.ids s.owners s.timed s.counts
+  threaded-still = subst (λ m. IsThreaded s.slots.items m s.owners s.timed s.counts) (sym ids) threaded
 
 pub invariant_of-self-2 : goal.invariant_of-self-2
 invariant_of-self-2 c =
@@ -41,6 +41,7 @@ invariant_of-self-2 c =
     let threaded = threaded-still s c.args.self.now c.self.view_is c.self.invariant index same in
     let items = c.in-Ok-insert.ensures.items ∙ ap (insert s.slots.items id) c.alone.ensures in
     threaded-joined (with_index s index) threaded c.insert.new.self id c.args.path c.args.node c.in-Ok.key c.in-Ok.ensures.cases c.in-Ok-insert.ensures.new items
+    (let short = c.if-len-ge-MAX_SLOTS.false in let all = c.len.ensures in omega (arith, short, all))
 
 pub put_back-requires-clause-held : goal.put_back-requires-clause-held
 put_back-requires-clause-held c =

@@ -15,6 +15,8 @@ invariant_of-self c =
       linked = subst (IsLinked s.slots.items s.index.ids) (sym c.close.ensures) (linked-closed s.slots.items s.index.ids s.owners c.args.owner c.self.invariant.linked none);
       mortal = c.self.invariant.mortal;
       parents = c.self.invariant.parents;
+      counted = c.self.invariant.counted;
+      few = c.self.invariant.few;
     }
 
 pub returns : goal.returns

@@ -2,10 +2,13 @@ use Rattle.std.proofs.Common.{◌≡◌, ◌≢◌, Some, sym, ap, ◌∙◌}
 use mathlib.Core.Path.{subst}
 use Rattle.std.specs.FinMap.{get, remove}
 use Rattle.zslots.specs.declared.id.Id.{Id}
-use Rattle.zslots.proofs.Maps.{get-remove-here, get-remove-elsewhere}
+use Rattle.zslots.specs.declared.limits.TheConstants.{MAX_SLOTS}
+use Rattle.zslots.proofs.Maps.{id_cmp_total, id_cmp_same, get-remove-here, get-remove-elsewhere}
+use Rattle.ztree.proofs.Maps.{len-remove-most}
 use Rattle.znodes.specs.declared.row.Row.{Row}
 use Rattle.znodes.specs.NodesView.{NodesView}
 use Rattle.znodes.specs.support.Rows.{IsThreaded, nodes_of, places_of, held_of}
+use Rattle.znodes.specs.support.Counting.{AreCounts}
 use Rattle.znodes.proofs.Mortal.{mortal-aside}
 use Rattle.znodes.proofs.Parents.{parents-aside}
 use Rattle.znodes.proofs.Aside.{linked-aside, nodes-aside, places-aside, held-gone}
@@ -18,10 +21,12 @@ invariant_of-self c =
     let m = s.slots.items in
     let id = c.args.id in
     let out = held-out s c.args.self.now c.self.view_is id c.requires.held in
-    subst (λ a. IsThreaded a s.index.ids s.owners s.timed) (sym c.remove.ensures.items) (record {
+    subst (λ a. IsThreaded a s.index.ids s.owners s.timed s.counts) (sym c.remove.ensures.items) (record {
       linked = linked-aside m (remove m id) s.index.ids s.owners id c.self.invariant.linked (λ q other. get-remove-elsewhere m id q other) out (λ x e. gone-none m id x e) (λ x e. gone-none m id x e);
       mortal = mortal-aside m (remove m id) s.index.ids s.owners s.timed id c.self.invariant.linked (λ q other. get-remove-elsewhere m id q other) out (λ x e. gone-none m id x e) c.self.invariant.mortal;
       parents = parents-aside m (remove m id) s.index.ids id (λ q other. get-remove-elsewhere m id q other) (λ x e. gone-none m id x e) c.self.invariant.parents;
+      counted = subst (λ nodes. AreCounts nodes s.counts) (sym (nodes-aside m (remove m id) s.index.ids s.owners id c.self.invariant.linked (λ q other. get-remove-elsewhere m id q other) out (λ x e. gone-none m id x e))) c.self.invariant.counted;
+      few = len-remove-most id_cmp_total id_cmp_same m id MAX_SLOTS c.self.invariant.few;
     })
 
 pub returns : goal.returns

@@ -8,10 +8,12 @@ use Rattle.zslots.specs.SlotsView.{Items, SlotsView}
 use Rattle.znodes.specs.index.IndexView.{IdsByPath}
 use Rattle.ztree.specs.Tree.{Path}
 use Rattle.znodes.specs.declared.row.Row.{Row}
+use Rattle.znodes.specs.declared.counts.Counts.{Counts}
 use Rattle.znodes.specs.support.OwnerLists.{OwnerLists}
+use Rattle.znodes.specs.support.Counting.{no_counts, counts_with}
 use Rattle.znodes.specs.support.Rows.{IsThreaded, lone_row, nodes_of, places_of, held_of, known_of}
 use Rattle.znodes.proofs.Opening as opening
-use Rattle.znodes.proofs.Opening.{known-none, linked-alone, mortal-alone, parents-alone, nodes-alone, places-alone, held-alone}
+use Rattle.znodes.proofs.Opening.{counted-alone, few-alone, known-none, linked-alone, mortal-alone, parents-alone, nodes-alone, places-alone, held-alone}
 use Rattle.znodes.proofs.nodes.Nodes.new.Goals as goal
 
 -- what the parts are, once all are made
@@ -33,17 +35,22 @@ module _ (c : goal.After-new-2) where
       ∙ ap (λ (m : IdsByPath). insert m c.root-3.result id) (c.reserve.ensures.same ∙ c.new-index.ensures)
       ∙ ap (λ (path : Path). insert {X = Id} finite.empty path id) c.root-3.ensures
 
+  counts : c.put.new.self ≡ counts_with no_counts c.args.root
+  counts = c.put.ensures.counts ∙ ap (λ n. counts_with n c.args.root) c.new-counts.ensures
+
 -- the index has room
 pub insert-requires-2 : goal.insert-requires-2
 insert-requires-2 c = search rules
 
 pub invariant_of-result : goal.invariant_of-result
 invariant_of-result c =
-    let all : (Items Row × (IdsByPath × (OwnerLists × IdList 2))) → Type 0 = λ w. IsThreaded w.0 w.1.0 w.1.1.0 w.1.1.1 in
-    subst all (λ i. (sym (rows c) i, (sym (ids c) i, (sym c.new.ensures i, sym c.new-2.ensures i)))) (record {
+    let all : (Items Row × (IdsByPath × (OwnerLists × (IdList 2 × Counts)))) → Type 0 = λ w. IsThreaded w.0 w.1.0 w.1.1.0 w.1.1.1.0 w.1.1.1.1 in
+    subst all (λ i. (sym (rows c) i, (sym (ids c) i, (sym c.new.ensures i, (sym c.new-2.ensures i, sym (counts c) i))))) (record {
       linked = linked-alone c.args.alloc c.args.root (id c) c.requires.nobodys;
       mortal = mortal-alone c.args.alloc c.args.root (id c) c.requires.stays;
       parents = parents-alone c.args.alloc c.args.root (id c);
+      counted = counted-alone c.args.alloc c.args.root (id c) c.put.ensures.small;
+      few = few-alone c.args.alloc c.args.root (id c);
     })
 
 pub returns : goal.returns

@@ -13,6 +13,8 @@ invariant_of-self c =
       linked = subst (IsLinked s.slots.items s.index.ids) (sym c.in_err-open.ensures.err) c.self.invariant.linked;
       mortal = c.self.invariant.mortal;
       parents = c.self.invariant.parents;
+      counted = c.self.invariant.counted;
+      few = c.self.invariant.few;
     }
 
 pub invariant_of-self-2 : goal.invariant_of-self-2
@@ -23,6 +25,8 @@ invariant_of-self-2 c =
       linked = subst (IsLinked s.slots.items s.index.ids) (sym c.in_ok-open.ensures.ok) (linked-opened s.slots.items s.index.ids s.owners c.args.owner c.self.invariant.linked free);
       mortal = c.self.invariant.mortal;
       parents = c.self.invariant.parents;
+      counted = c.self.invariant.counted;
+      few = c.self.invariant.few;
     }
 
 pub returns-clause-ok : goal.returns-clause-ok

@@ -1,9 +1,9 @@
-use Rattle.std.proofs.Common.{◌≡◌, ◌≤◌, ◌+◌, ◌⊎◌, Option, Some, None, IsSome, sym, ap, ◌∙◌}
+use Rattle.std.proofs.Common.{◌≡◌, ◌≤◌, ◌+◌, ◌⊎◌, Option, Some, None, IsSome, sym, ap, ◌∙◌, arith}
 use mathlib.Core.Path.{subst}
 use Rattle.std.specs.Option.{option_copied, option_copied_mut, option_map_or}
 use Rattle.std.specs.FinMap.{get, insert, remove}
 use Rattle.zslots.specs.declared.id.Id.{Id}
-use Rattle.zslots.specs.declared.limits.TheConstants.{MAX_LENGTH}
+use Rattle.zslots.specs.declared.limits.TheConstants.{MAX_LENGTH, MAX_SLOTS}
 use Rattle.zslots.specs.declared.list.List.{List as IdList}
 use Rattle.zslots.specs.SlotsView.{SlotsView, Items, with_items}
 use Rattle.zslots.proofs.Items.{some_there}
@@ -17,10 +17,16 @@ use Rattle.znodes.specs.NodesView.{NodesView, CanReturn}
 use Rattle.znodes.specs.support.OwnerLists.{OwnerLists, list_of}
 use Rattle.znodes.specs.support.Rows.{Key, IsThreaded, nodes_of, places_of, held_of, known_of}
 use Rattle.znodes.specs.support.Linking.{with_key, kept_key, with_child, with_owned, with_timed, timed_with, with_parent}
+use Rattle.znodes.specs.declared.counts.Counts.{Counts}
+use Rattle.znodes.specs.support.Counting.{AreCounts, counts_with}
+use Rattle.znodes.proofs.Counted.{counts-more, owned-most, bytes-most}
+use Rattle.znodes.proofs.Faces.{face}
+use Rattle.znodes.proofs.Few.{ids-few, parts-many}
+use Rattle.znodes.proofs.Found.{len-nodes, get-nodes-none}
 use Rattle.znodes.proofs.OwnerMaps.{listed}
 use Rattle.znodes.proofs.Linked.{taken-row, shown-taken, can-return, parent-named}
 use Rattle.znodes.proofs.Heads.{known-with}
-use Rattle.znodes.proofs.Back.{put, back, more, owners_back, key-kept}
+use Rattle.znodes.proofs.Back.{put, back, rows-back, more, owners_back, key-kept}
 use Rattle.znodes.proofs.Returned.{child-room, owned-room, linked-back, nodes-returned, places-returned, held-returned}
 use Rattle.znodes.proofs.Mortal.{nodes-same, places-same, held-same, mortal-back, timed-room, linked-listed, listed-faces}
 use Rattle.znodes.proofs.Parents.{named-faces, linked-named, mortal-named, parents-back}
@@ -32,6 +38,25 @@ unreachable-requires c =
     let t = some_there (get c.args.self.now.held c.args.id) c.requires.held in
     let row = taken-row c.self.inside.slots.items c.args.id t.0 (ap (λ (w : NodesView). get w.held c.args.id) c.self.view_is ∙ t.1) in
     none_some row.0 (ap option_copied (sym c.in_default.is) ∙ c.get.ensures ∙ row.1)
+
+-- there is room in the counts
+pub put-requires-clause-owned : goal.put-requires-clause-owned
+put-requires-clause-owned c =
+    let s = c.self.inside in
+    let most = owned-most (nodes_of s.slots.items s.index.ids) s.counts c.self.invariant.counted in
+    let same = len-nodes s.slots.items s.index.ids s.owners c.self.invariant.linked in
+    let few = ids-few s.slots.items s.index.ids s.owners c.self.invariant.linked in
+    let all = c.self.invariant.few in
+    omega (arith, most, same, few, all)
+
+pub put-requires-clause-bytes : goal.put-requires-clause-bytes
+put-requires-clause-bytes c =
+    let s = c.self.inside in
+    let most = bytes-most (nodes_of s.slots.items s.index.ids) s.counts c.self.invariant.counted in
+    let same = len-nodes s.slots.items s.index.ids s.owners c.self.invariant.linked in
+    let few = ids-few s.slots.items s.index.ids s.owners c.self.invariant.linked in
+    let all = c.self.invariant.few in
+    omega (arith, most, same, few, all)
 
 pub put_child-requires : goal.put_child-requires
 put_child-requires c =
@@ -126,7 +151,7 @@ module _ (c : goal.Joined-get_mut) where
   listed_timed = c.put_timed.ensures.timed
 
   abbrev listed_end : SlotsView Row → IdList 2 → Inside
-  listed_end slots timed = record { slots = slots; index = c.insert.new.self; owners = c.put_owned.new.owners; timed = timed; alloc = c.self.inside.alloc }
+  listed_end slots timed = record { slots = slots; index = c.insert.new.self; owners = c.put_owned.new.owners; timed = timed; counts = c.put.new.self; alloc = c.self.inside.alloc }
 
   -- and with its parent
   named_end : c.match-get_mut.self-inside ≡ beneath c.args.id c.args.parent (listed_end c.put_timed.new.slots c.put_timed.new.timed)
@@ -143,6 +168,7 @@ module _ (c : goal.Joined-get_mut) where
     index = c.insert.new.self;
     owners = c.put_owned.new.owners;
     timed = timed_with c.self.inside.timed (may_end r.node.term) c.args.id;
+    counts = c.put.new.self;
     alloc = c.self.inside.alloc;
   })
   ended = named_end ∙ (λ i. beneath c.args.id c.args.parent (listed_end (listed_slots i) (listed_timed i)))
@@ -166,6 +192,9 @@ module _ (c : goal.Joined-get_mut) where
   lists : c.match-get_mut.self-inside.owners ≡ owners_back m ids owners c.args.id r
   lists = ap (λ (s : Inside). s.owners) ended ∙ c.put_owned.ensures.owners
 
+  counts : c.match-get_mut.self-inside.counts ≡ counts_with c.self.inside.counts r.node
+  counts = ap (λ (s : Inside). s.counts) ended ∙ c.put.ensures.counts
+
 pub invariant_of-self : goal.invariant_of-self
 invariant_of-self c =
     let ends = can c in
@@ -173,13 +202,25 @@ invariant_of-self c =
     let here = back (m c) (ids c) (owners c) c.args.id (r c) in
     let later = more (m c) (ids c) (owners c) c.args.id (r c) in
     let lists_later = owners_back (m c) (ids c) (owners c) c.args.id (r c) in
-    let all : (Items Row × (IdsByPath × (OwnerLists × IdList 2))) → Type 0 = λ w. IsThreaded w.0 w.1.0 w.1.1.0 w.1.1.1 in
-    subst all (λ i. (sym (rows c) i, (sym (index c) i, (sym (lists c) i, sym (ap (λ (s : Inside). s.timed) (ended c)) i)))) (record {
+    let all : (Items Row × (IdsByPath × (OwnerLists × (IdList 2 × Counts)))) → Type 0 = λ w. IsThreaded w.0 w.1.0 w.1.1.0 w.1.1.1.0 w.1.1.1.1 in
+    subst all (λ i. (sym (rows c) i, (sym (index c) i, (sym (lists c) i, (sym (ap (λ (s : Inside). s.timed) (ended c)) i, sym (counts c) i))))) (record {
       linked = linked-named (listed_rows c) later lists_later c.args.id c.args.parent (linked-listed here later lists_later c.self.inside.timed (may_end (r c).node.term) c.args.id linked);
       mortal =
           mortal-named (listed_rows c) later lists_later c.args.id c.args.parent (timed_with c.self.inside.timed (may_end (r c).node.term) c.args.id)
           (mortal-back (m c) (ids c) (owners c) c.self.inside.timed c.args.id (r c) (shown c).0 c.self.invariant.mortal (there c) (shown c).1);
       parents = parents-back (m c) (ids c) (owners c) c.self.inside.timed c.args.id (r c) c.self.invariant.linked (there c) (fits c).below_root ends.0 c.args.parent (over c) c.self.invariant.parents;
+      counted =
+          subst (λ nodes. AreCounts nodes (counts_with c.self.inside.counts (r c).node))
+          (sym (nodes-same (listed_rows c) (with_parent (listed_rows c) c.args.id c.args.parent) later (named-faces (listed_rows c) (ids c) (owners c) c.args.id c.args.parent)
+          ∙ nodes-same here (listed_rows c) later (listed-faces here (ids c) (owners c) c.self.inside.timed (may_end (r c).node.term) c.args.id)
+          ∙ nodes-returned (m c) (ids c) (owners c) c.args.id (r c) (shown c).0 c.self.invariant.linked (there c) (shown c).1 (fits c).below_root ends.0 ends.1.0 ends.1.1 ends.2))
+          (counts-more (nodes_of (m c) (ids c)) c.self.inside.counts c.self.invariant.counted (r c).path (r c).node (get-nodes-none (m c) (ids c) (r c).path ends.0) c.put.ensures.small);
+      few =
+          subst (λ n. n ≤ MAX_SLOTS)
+          (sym (parts-many face (listed_rows c) (with_parent (listed_rows c) c.args.id c.args.parent) (named-faces (listed_rows c) (ids c) (owners c) c.args.id c.args.parent)
+          ∙ parts-many face here (listed_rows c) (listed-faces here (ids c) (owners c) c.self.inside.timed (may_end (r c).node.term) c.args.id)
+          ∙ rows-back (m c) (ids c) (owners c) c.args.id (r c) (there c) (list_of (owners c) (r c).node.owner)))
+          c.self.invariant.few;
     })
 
 pub returns : goal.returns

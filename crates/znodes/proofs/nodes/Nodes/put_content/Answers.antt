@@ -1,4 +1,4 @@
-use Rattle.std.proofs.Common.{refl, sym, ap, ◌∙◌}
+use Rattle.std.proofs.Common.{◌≤◌, Some, refl, arith, sym, ap, ◌∙◌}
 use mathlib.Core.Path.{subst}
 use Rattle.std.specs.Option.{option_copied_mut}
 use Rattle.std.specs.FinMap.{insert}
@@ -7,16 +7,42 @@ use Rattle.ztree.proofs.Maps.{same_some, none_some}
 use Rattle.znodes.specs.declared.row.Row.{Row}
 use Rattle.znodes.specs.NodesView.{NodesView, content_of, node_with_content}
 use Rattle.znodes.specs.support.Rows.{IsThreaded, nodes_of, places_of, held_of}
-use Rattle.znodes.proofs.Linked.{live-shown, node-is}
+use Rattle.zslots.specs.declared.limits.TheConstants.{MAX_SLOTS}
+use Rattle.zslots.specs.SlotsView.{Items}
+use Rattle.znodes.specs.declared.counts.Counts.{Counts}
+use Rattle.znodes.specs.support.Counting.{AreCounts, counts_changed}
+use Rattle.znodes.proofs.Counted.{size-within, bytes-most, counts-changed}
+use Rattle.znodes.proofs.Few.{ids-few}
+use Rattle.znodes.proofs.Found.{len-nodes}
+use Rattle.znodes.proofs.Linked.{live-shown, node-is, node-shown}
 use Rattle.znodes.proofs.Mortal.{mortal-written}
 use Rattle.znodes.proofs.Parents.{parents-written}
-use Rattle.znodes.proofs.Written.{row-written, linked-written, nodes-written, places-written, held-written}
+use Rattle.znodes.proofs.Written.{row-written, rows-written, linked-written, nodes-written, places-written, held-written}
 use Rattle.znodes.proofs.nodes.Nodes.put_content.Goals as goal
 
 pub unreachable-requires : goal.unreachable-requires
 unreachable-requires c =
     let r = live-shown c.self.inside c.args.self.now c.self.view_is c.args.id c.requires.live in
     none_some r.0 (sym (ap option_copied_mut c.in_default.is) ∙ c.get_mut.follows ∙ r.1)
+
+-- the row's node is one of those counted
+pub change-requires-clause-counted : goal.change-requires-clause-counted
+change-requires-clause-counted c =
+    let s = c.self.inside in
+    let r = live-shown s c.args.self.now c.self.view_is c.args.id c.requires.live in
+    let row = c.in-Some.row.now in
+    size-within (nodes_of s.slots.items s.index.ids) s.counts c.self.invariant.counted r.0.path row.node
+    (node-shown s.slots.items s.index.ids s.owners c.self.invariant.linked c.args.id r.0 r.1 r.2
+    ∙ ap (λ (x : Row). Some x.node) (sym (same_some row r.0 (sym (ap option_copied_mut c.in-Some.is) ∙ c.get_mut.follows ∙ r.1))))
+
+pub change-requires-clause-bytes : goal.change-requires-clause-bytes
+change-requires-clause-bytes c =
+    let s = c.self.inside in
+    let most = bytes-most (nodes_of s.slots.items s.index.ids) s.counts c.self.invariant.counted in
+    let same = len-nodes s.slots.items s.index.ids s.owners c.self.invariant.linked in
+    let few = ids-few s.slots.items s.index.ids s.owners c.self.invariant.linked in
+    let all = c.self.invariant.few in
+    omega (arith, most, same, few, all)
 
 pub invariant_of-self : goal.invariant_of-self
 invariant_of-self c =
@@ -26,10 +52,20 @@ invariant_of-self c =
     let rows =
     ap (λ bytes. insert s.slots.items c.args.id (record row { node = node_with_content (record c.args.content { bytes = bytes }) row.node })) c.replace.ensures.after
     ∙ row-written s.slots.items c.args.id (node_with_content c.args.content) row (sym c.get_mut.follows ∙ ap option_copied_mut c.in-Some.is) in
-    subst (λ m. IsThreaded m s.index.ids s.owners s.timed) (sym rows) (record {
+    let all : (Items Row × Counts) → Type 0 = λ w. IsThreaded w.0 s.index.ids s.owners s.timed w.1 in
+    let counts = c.change.ensures.counts in
+    let here =
+    node-shown s.slots.items s.index.ids s.owners c.self.invariant.linked c.args.id r.0 r.1 r.2
+    ∙ ap (λ (x : Row). Some x.node) (sym (same_some row r.0 (sym (ap option_copied_mut c.in-Some.is) ∙ c.get_mut.follows ∙ r.1))) in
+    subst all (λ i. (sym rows i, sym counts i)) (record {
       linked = linked-written s.slots.items s.index.ids s.owners c.args.id r.0 (node_with_content c.args.content) c.self.invariant.linked r.1 r.2 (λ _. refl);
       mortal = mortal-written s.slots.items s.timed c.args.id (node_with_content c.args.content) (λ _. refl) c.self.invariant.mortal;
       parents = parents-written s.slots.items s.index.ids c.args.id (node_with_content c.args.content) c.self.invariant.parents;
+      counted =
+          subst (λ nodes. AreCounts nodes (counts_changed s.counts row.node.bytes c.args.content.bytes)) (sym (nodes-written s.slots.items s.index.ids s.owners c.args.id r.0 (node_with_content c.args.content) c.self.invariant.linked r.1 r.2 (λ _. refl)))
+          (counts-changed (nodes_of s.slots.items s.index.ids) s.counts c.self.invariant.counted r.0.path row.node
+          here (node_with_content c.args.content) refl c.change.ensures.small);
+      few = subst (λ n. n ≤ MAX_SLOTS) (sym (rows-written s.slots.items c.args.id (node_with_content c.args.content))) c.self.invariant.few;
     })
 
 pub returns-clause-written : goal.returns-clause-written

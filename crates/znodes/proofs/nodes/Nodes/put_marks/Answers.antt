@@ -1,4 +1,4 @@
-use Rattle.std.proofs.Common.{refl, sym, ap, ◌∙◌}
+use Rattle.std.proofs.Common.{◌≤◌, refl, sym, ap, ◌∙◌}
 use mathlib.Core.Path.{subst}
 use Rattle.std.specs.Option.{option_copied_mut}
 use Rattle.ztree.specs.Tree.{with_change_at}
@@ -6,10 +6,13 @@ use Rattle.ztree.proofs.Maps.{same_some, none_some}
 use Rattle.znodes.specs.declared.row.Row.{Row}
 use Rattle.znodes.specs.NodesView.{NodesView, marks_of, node_with_marks}
 use Rattle.znodes.specs.support.Rows.{IsThreaded, nodes_of, places_of, held_of}
-use Rattle.znodes.proofs.Linked.{live-shown, node-is}
+use Rattle.zslots.specs.declared.limits.TheConstants.{MAX_SLOTS}
+use Rattle.znodes.specs.support.Counting.{AreCounts}
+use Rattle.znodes.proofs.Counted.{counts-kept}
+use Rattle.znodes.proofs.Linked.{live-shown, node-is, node-shown}
 use Rattle.znodes.proofs.Mortal.{mortal-written}
 use Rattle.znodes.proofs.Parents.{parents-written}
-use Rattle.znodes.proofs.Written.{row-written, linked-written, nodes-written, places-written, held-written}
+use Rattle.znodes.proofs.Written.{row-written, rows-written, linked-written, nodes-written, places-written, held-written}
 use Rattle.znodes.proofs.nodes.Nodes.put_marks.Goals as goal
 
 pub unreachable-requires : goal.unreachable-requires
@@ -22,10 +25,15 @@ invariant_of-self c =
     let s = c.self.inside in
     let r = live-shown s c.args.self.now c.self.view_is c.args.id c.requires.live in
     let rows = row-written s.slots.items c.args.id (node_with_marks c.args.marks) c.in-Some.row.now (sym c.get_mut.follows ∙ ap option_copied_mut c.in-Some.is) in
-    subst (λ m. IsThreaded m s.index.ids s.owners s.timed) (sym rows) (record {
+    subst (λ m. IsThreaded m s.index.ids s.owners s.timed s.counts) (sym rows) (record {
       linked = linked-written s.slots.items s.index.ids s.owners c.args.id r.0 (node_with_marks c.args.marks) c.self.invariant.linked r.1 r.2 (λ _. refl);
       mortal = mortal-written s.slots.items s.timed c.args.id (node_with_marks c.args.marks) (λ _. refl) c.self.invariant.mortal;
       parents = parents-written s.slots.items s.index.ids c.args.id (node_with_marks c.args.marks) c.self.invariant.parents;
+      counted =
+          subst (λ nodes. AreCounts nodes s.counts) (sym (nodes-written s.slots.items s.index.ids s.owners c.args.id r.0 (node_with_marks c.args.marks) c.self.invariant.linked r.1 r.2 (λ _. refl)))
+          (counts-kept (nodes_of s.slots.items s.index.ids) s.counts c.self.invariant.counted r.0.path r.0.node
+          (node-shown s.slots.items s.index.ids s.owners c.self.invariant.linked c.args.id r.0 r.1 r.2) (node_with_marks c.args.marks) refl refl);
+      few = subst (λ n. n ≤ MAX_SLOTS) (sym (rows-written s.slots.items c.args.id (node_with_marks c.args.marks))) c.self.invariant.few;
     })
 
 pub returns-clause-written : goal.returns-clause-written

@@ -14,9 +14,15 @@ use Rattle.znodes.specs.NodesView.{NodesView, path_of}
 use Rattle.znodes.specs.support.OwnerLists.{OwnerLists, list_of}
 use Rattle.znodes.specs.support.Rows.{Key, IsThreaded, nodes_of, places_of, held_of, known_of}
 use Rattle.znodes.specs.support.Linking.{with_key, without_child, without_owned, owners_without, without_timed, timed_without}
+use Rattle.zslots.specs.declared.limits.TheConstants.{MAX_SLOTS}
+use Rattle.znodes.specs.declared.counts.Counts.{Counts}
+use Rattle.znodes.specs.support.Counting.{AreCounts, counts_without}
+use Rattle.znodes.proofs.Counted.{owned-within, size-within, counts-less}
+use Rattle.znodes.proofs.Faces.{face}
+use Rattle.znodes.proofs.Few.{parts-many}
 use Rattle.znodes.proofs.Linked.{live-row, shown-row, node-shown}
 use Rattle.znodes.proofs.Heads.{known-without}
-use Rattle.znodes.proofs.Away.{cut, away, fewer, owners_after}
+use Rattle.znodes.proofs.Away.{cut, away, rows-away, fewer, owners_after}
 use Rattle.znodes.proofs.Taken.{child-counted, owned-counted, linked-away, nodes-away, places-away, held-away}
 use Rattle.znodes.proofs.Mortal.{nodes-same, places-same, held-same, mortal-away, timed-counted, linked-unlisted, unlisted-faces}
 use Rattle.znodes.proofs.Parents.{parent-of-live, parents-away}
@@ -27,6 +33,23 @@ unreachable-requires c =
     let path = some_there (path_of c.args.self.now c.args.id) c.requires.live in
     let row = live-row c.self.inside.slots.items c.args.id path.0 (ap (λ w. path_of w c.args.id) c.self.view_is ∙ path.1) in
     none_some row.0 (ap option_copied (sym c.in_default.is) ∙ c.get.ensures ∙ row.1)
+
+-- the counts have the row's node
+pub cut-requires-clause-owned : goal.cut-requires-clause-owned
+cut-requires-clause-owned c =
+    let s = c.self.inside in
+    let r = c.in-Some.row.now in
+    let there = sym c.in-Some.ensures in
+    let shown = shown-row s c.args.self.now c.self.view_is c.args.id r c.requires.live there in
+    owned-within (nodes_of s.slots.items s.index.ids) s.counts c.self.invariant.counted r.path r.node (node-shown s.slots.items s.index.ids s.owners c.self.invariant.linked c.args.id r there shown.0)
+
+pub cut-requires-clause-bytes : goal.cut-requires-clause-bytes
+cut-requires-clause-bytes c =
+    let s = c.self.inside in
+    let r = c.in-Some.row.now in
+    let there = sym c.in-Some.ensures in
+    let shown = shown-row s c.args.self.now c.self.view_is c.args.id r c.requires.live there in
+    size-within (nodes_of s.slots.items s.index.ids) s.counts c.self.invariant.counted r.path r.node (node-shown s.slots.items s.index.ids s.owners c.self.invariant.linked c.args.id r there shown.0)
 
 -- the row, in the tree
 pub cut_child-requires : goal.cut_child-requires
@@ -121,11 +144,21 @@ invariant_of-self c =
     let gone = away (m c) (ids c) (owners c) c.args.id (r c) (key c).0 in
     let left = fewer (m c) (ids c) (owners c) c.args.id (r c) (key c).0 in
     let after = owners_after (m c) (ids c) (owners c) c.args.id (r c) (key c).0 in
-    let all : (Items Row × (IdsByPath × (OwnerLists × IdList 2))) → Type 0 = λ w. IsThreaded w.0 w.1.0 w.1.1.0 w.1.1.1 in
-    subst all (λ i. (sym (rows c) i, (sym (index c) i, (sym (lists c) i, sym (timed c) i)))) (record {
+    let all : (Items Row × (IdsByPath × (OwnerLists × (IdList 2 × Counts)))) → Type 0 = λ w. IsThreaded w.0 w.1.0 w.1.1.0 w.1.1.1.0 w.1.1.1.1 in
+    subst all (λ i. (sym (rows c) i, (sym (index c) i, (sym (lists c) i, (sym (timed c) i, sym c.cut.ensures i))))) (record {
       linked = linked-unlisted gone left after (may_end (r c).node.term) c.args.id linked;
       mortal = mortal-away (m c) (ids c) (owners c) c.self.inside.timed c.args.id (r c) (key c).0 c.self.invariant.mortal (there c) (shown c).0;
       parents = parents-away (m c) (ids c) (owners c) c.args.id (r c) (key c).0 c.self.invariant.linked (there c) (below c) (leaf c) c.self.invariant.parents;
+      counted =
+          subst (λ nodes. AreCounts nodes (counts_without c.self.inside.counts (r c).node))
+          (sym (nodes-same gone (without_timed gone (may_end (r c).node.term) c.args.id) left (unlisted-faces gone (ids c) (owners c) (may_end (r c).node.term) c.args.id)
+          ∙ nodes-away (m c) (ids c) (owners c) c.args.id (r c) (key c).0 c.self.invariant.linked (there c) (shown c).0 (below c) (leaf c) (named c)))
+          (counts-less (nodes_of (m c) (ids c)) c.self.inside.counts c.self.invariant.counted (r c).path (r c).node (node-shown (m c) (ids c) (owners c) c.self.invariant.linked c.args.id (r c) (there c) (shown c).0));
+      few =
+          subst (λ n. n ≤ MAX_SLOTS)
+          (sym (parts-many face gone (without_timed gone (may_end (r c).node.term) c.args.id) (unlisted-faces gone (ids c) (owners c) (may_end (r c).node.term) c.args.id)
+          ∙ rows-away (m c) (ids c) (owners c) c.args.id (r c) (key c).0 (there c) (list_of (owners c) (r c).node.owner)))
+          c.self.invariant.few;
     })
 
 pub returns : goal.returns

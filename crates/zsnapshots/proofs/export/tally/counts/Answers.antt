@@ -14,7 +14,10 @@ loop-path-init c =
     let sessions : c.len-2.result ≡ finite.len t.sessions = others ∙ len_keys t.sessions c.in_ok-sessions.sessions.items c.in_ok-sessions.ensures in
     let changes : c.number.result ≡ t.zxid = c.number.ensures ∙ c.zxid.ensures in
     counting_all t _ c.into_iter-path-iterator.result.rest.items (c.into_iter-path-iterator.ensures.into_iter_gives.0 ∙ c.in_ok-paths.ensures.paths)
-    c.in_ok-paths.ensures.settled.lawful.few_nodes
+    (let lawful = c.in_ok-paths.ensures.settled.lawful in
+    let few = lawful.few_nodes in
+    let most = lawful.allowed.few_nodes in
+    omega (arith, few, most))
     (λ i. record { nodes = nodes i; bytes = 0; ephemerals = 0; counters = 0; sessions = sessions i; changes = changes i; ticks = c.time.ensures i })
 
 pub unreachable-requires : goal.unreachable-requires

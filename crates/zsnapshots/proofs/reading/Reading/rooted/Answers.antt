@@ -8,6 +8,6 @@ of-requires c =
     record {
       at_root = c.requires;
       node = c.args.root;
-      can = subst (λ last. CanBegin c.args.root h.time h.zxid last) c.number.ensures.same c.in-Ok.ensures.can;
-      state = c.in-Ok.ensures.state ∙ ap (λ last. rooted_machine c.args.root h.time h.zxid last) c.number.ensures.same;
+      can = subst (λ last. CanBegin c.args.root h.time h.zxid last h.limits) c.number-last.ensures.same c.in-Ok.ensures.can;
+      state = c.in-Ok.ensures.state ∙ ap (λ last. rooted_machine c.args.root h.time h.zxid last h.limits) c.number-last.ensures.same;
     }

@@ -12,7 +12,8 @@ overflow_cast-header c =
     let long = ap length keys ∙ length-map (finite.entries t.sessions) (λ e. e.0) in
     let all = finite.len-entries t.sessions in
     let few = c.requires.keys.settled.lawful.few_sessions in
-    omega (arith, c.len.ensures, long, all, few)
+    let most = c.requires.keys.settled.lawful.allowed.few_sessions in
+    omega (arith, c.len.ensures, long, all, few, most)
 
 pub overflow_sub-header : goal.overflow_sub-header
 overflow_sub-header c =
@@ -29,4 +30,5 @@ overflow_cast-header-2 c =
     let long = ap length keys ∙ length-map (finite.entries t.nodes) (λ e. e.0) in
     let all = finite.len-entries t.nodes in
     let few = c.requires.keys.settled.lawful.few_nodes in
-    omega (arith, c.len-2.ensures, long, all, few)
+    let most = c.requires.keys.settled.lawful.allowed.few_nodes in
+    omega (arith, c.len-2.ensures, long, all, few, most)

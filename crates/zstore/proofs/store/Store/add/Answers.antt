@@ -5,7 +5,7 @@ use Rattle.std.specs.FinMap as finite
 use mir.Val.{bool_byte}
 use Rattle.zpath.specs.Grammar.{IsPath}
 use Rattle.zslots.specs.declared.id.Id.{Id}
-use Rattle.ztree.specs.declared.limits.TheConstants.{MAX_NODES, COUNTER_BOUND}
+use Rattle.ztree.specs.declared.limits.TheConstants.{COUNTER_BOUND}
 use Rattle.ztree.specs.declared.node.Node.{Node}
 use Rattle.ztree.specs.Tree.{Path, Nodes, parent_of, has_node, new_node, with_node, with_child}
 use Rattle.ztree.specs.Lawful.{IsPersistent, IsOwner, HasOneEnd}
@@ -36,7 +36,7 @@ note-requires c =
     let s = c.self.inside in
     let free = ap (λ (h : StoreView). has_node h.tree.nodes c.args.path) c.self.view_is
     ∙ c.requires.free in
-    added_held s.nodes c.add.new.self s.sessions s.time s.zxid (notes_of s.log) c.self.invariant
+    added_held s.nodes c.add.new.self s.sessions s.time s.zxid s.limits (notes_of s.log) c.self.invariant
     c.in_ok-id.id c.args.path c.new-node.result c.in_ok-id.ensures.added free c.requires.below_root
 
 -- what holds once the node is there: the node above it is what it was
@@ -64,18 +64,18 @@ module _ (s : Inside) (h : StoreView) (view : held_by s ≡ h) (mid new : NodesV
       ∙ sym (ap (λ (m : Nodes). finite.get m (parent_of path)) nodes)
       ∙ sym (ap (option_and_then (finite.get new.nodes)) at)
 
-  stored : IsStored (notes_of s.log) s.nodes s.sessions s.time s.zxid →
+  stored : IsStored (notes_of s.log) s.nodes s.sessions s.time s.zxid s.limits →
       has_node h.tree.nodes path ≡ false → IsPersistent (node_of h parent) →
-      IsOwner h.tree.sessions n.owner → HasOneEnd n → finite.len h.tree.nodes < MAX_NODES →
-      IsPath path → IsStored notes new s.sessions s.time s.zxid
+      IsOwner h.tree.sessions n.owner → HasOneEnd n → finite.len h.tree.nodes < h.tree.limits.nodes →
+      IsPath path → IsStored notes new s.sessions s.time s.zxid s.limits
   stored before free persistent owner one_end few is_path =
       rw (noted, kept) (
-      added_stored s.nodes mid s.sessions s.time s.zxid (notes_of s.log) before id path n adds
+      added_stored s.nodes mid s.sessions s.time s.zxid s.limits (notes_of s.log) before id path n adds
       (ap (λ (x : StoreView). has_node x.tree.nodes path) view ∙ free) below
       (subst (λ o. IsPersistent (option_and_then (finite.get s.nodes.nodes) o)) was
       (subst (λ (x : StoreView). IsPersistent (node_of x parent)) (sym view) persistent))
       (subst (λ (x : StoreView). IsOwner x.tree.sessions n.owner) (sym view) owner) one_end
-      (subst (λ (x : StoreView). finite.len x.tree.nodes < MAX_NODES) (sym view) few) is_path)
+      (subst (λ (x : StoreView). finite.len x.tree.nodes < x.tree.limits.nodes) (sym view) few) is_path)
 
 pub unreachable-requires : goal.unreachable-requires
 unreachable-requires c =
@@ -128,7 +128,7 @@ note-requires-2 c =
     c.self.invariant c.requires.free c.requires.persistent
     (subst (λ (n : Node). IsOwner c.args.self.now.tree.sessions n.owner) (sym made) c.requires.owner)
     (subst HasOneEnd (sym made) c.requires.one_end) c.requires.few c.keeps_its_form.ensures in
-    marks_held c.note.new.nodes put.new.self s.sessions s.time s.zxid (notes_of c.note.new.self) stored
+    marks_held c.note.new.nodes put.new.self s.sessions s.time s.zxid s.limits (notes_of c.note.new.self) stored
     c.args.parent (ap is_some at) _ put.result put.ensures.written put.ensures.before
 
 pub invariant_of-self-2 : goal.invariant_of-self-2
@@ -150,7 +150,7 @@ invariant_of-self-2 c =
     (subst (λ (n : Node). IsOwner c.args.self.now.tree.sessions n.owner) (sym made) c.requires.owner)
     (subst HasOneEnd (sym made) c.requires.one_end) c.requires.few c.keeps_its_form.ensures in
     rw (c.note-2.ensures.notes, c.note-2.ensures.nodes)
-    (marks_stored c.note.new.nodes put.new.self s.sessions s.time s.zxid (notes_of c.note.new.self) stored
+    (marks_stored c.note.new.nodes put.new.self s.sessions s.time s.zxid s.limits (notes_of c.note.new.self) stored
     c.args.parent (ap is_some at) _ put.result put.ensures.written put.ensures.before)
 
 pub returns-clause-added : goal.returns-clause-added
@@ -177,20 +177,20 @@ returns-clause-added c =
     let made =
     c.new-node.ensures
     ∙ ap (λ z. new_node c.args.bytes c.args.owner c.args.term z s.time) c.next.ensures in
-    ap (λ (m : Nodes). tree_of m s.sessions s.time s.zxid)
+    ap (λ (m : Nodes). tree_of m s.sessions s.time s.zxid s.limits)
     (ap (λ (v : NodesView). v.nodes) c.note-2.ensures.nodes
     ∙ ap (λ (v : NodesView). v.nodes) (put.ensures.written over at)
     ∙ changed_at-some old over (node_with_marks _) above found
     ∙ (λ i. finite.insert old over (marked i))
     ∙ sym (changed_at-some old over (with_child (s.zxid + 1) c.args.sequential) above found))
     ∙ ap (λ (m : Nodes).
-    with_child_at (tree_of m s.sessions s.time s.zxid) over c.args.sequential)
+    with_child_at (tree_of m s.sessions s.time s.zxid s.limits) over c.args.sequential)
     (nodes c.self.inside c.args.self.now c.self.view_is c.add.new.self c.note.new.nodes
     (notes_of c.note.new.self) c.in_ok-id.id c.args.parent c.args.path c.new-node.result
     c.in_ok-id.ensures.added c.note.ensures.notes c.note.ensures.nodes c.requires.below_root
     c.requires.live)
     ∙ ap (λ (n : Node).
-    with_child_at (tree_of (finite.insert s.nodes.nodes c.args.path n) s.sessions s.time s.zxid)
+    with_child_at (tree_of (finite.insert s.nodes.nodes c.args.path n) s.sessions s.time s.zxid s.limits)
     over c.args.sequential) made
     ∙ ap (λ (h : StoreView).
     with_node h.tree c.args.path c.args.bytes c.args.owner c.args.term c.args.sequential)
@@ -216,20 +216,20 @@ returns-clause-marked c =
     (subst HasOneEnd (sym made) c.requires.one_end) c.requires.few c.keeps_its_form.ensures in
     let free = ap (λ (h : StoreView). has_node h.tree.nodes c.args.path) c.self.view_is
     ∙ c.requires.free in
-    let first : option_map (mark_of c.note.new.nodes s.sessions s.time s.zxid)
+    let first : option_map (mark_of c.note.new.nodes s.sessions s.time s.zxid s.limits)
     (notes_of c.note.new.self) ≡ mark_left 1 c.args.self.now.marked =
     rw (c.note.ensures.notes, c.note.ensures.nodes, ← c.self.view_is)
-    (noted_marked (Added c.in_ok-id.id) s.nodes c.add.new.self s.sessions s.time s.zxid
-    (added_back s.nodes c.add.new.self s.sessions s.time s.zxid (notes_of s.log) c.self.invariant
+    (noted_marked (Added c.in_ok-id.id) s.nodes c.add.new.self s.sessions s.time s.zxid s.limits
+    (added_back s.nodes c.add.new.self s.sessions s.time s.zxid s.limits (notes_of s.log) c.self.invariant
     c.in_ok-id.id c.args.path c.new-node.result c.in_ok-id.ensures.added free
     c.requires.below_root) (notes_of s.log)) in
-    let second : option_map (mark_of c.note-2.new.nodes s.sessions s.time s.zxid)
+    let second : option_map (mark_of c.note-2.new.nodes s.sessions s.time s.zxid s.limits)
     (notes_of c.note-2.new.self) ≡ mark_left 1
-    (option_map (mark_of c.note.new.nodes s.sessions s.time s.zxid) (notes_of c.note.new.self)) =
+    (option_map (mark_of c.note.new.nodes s.sessions s.time s.zxid s.limits) (notes_of c.note.new.self)) =
     rw (c.note-2.ensures.notes, c.note-2.ensures.nodes)
     (noted_marked (Marked c.args.parent put.result) c.note.new.nodes put.new.self s.sessions s.time
-    s.zxid
-    (marks_back c.note.new.nodes put.new.self s.sessions s.time s.zxid (notes_of c.note.new.self) stored
+    s.zxid s.limits
+    (marks_back c.note.new.nodes put.new.self s.sessions s.time s.zxid s.limits (notes_of c.note.new.self) stored
     c.args.parent (ap is_some at) _ put.result put.ensures.written put.ensures.before)
     (notes_of c.note.new.self)) in
     second ∙ ap (mark_left 1) first ∙ mark_left_twice c.args.self.now.marked

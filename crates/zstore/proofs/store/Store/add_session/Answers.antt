@@ -21,7 +21,7 @@ close_owner-requires c =
     let free = ap (λ (h : StoreView). finite.get h.tree.sessions c.args.id) c.self.view_is
     ∙ c.requires.can.free in
     let none =
-    owns_nothing s.nodes.nodes s.nodes.places s.sessions s.time s.zxid c.self.invariant.kept
+    owns_nothing s.nodes.nodes s.nodes.places s.sessions s.time s.zxid s.limits c.self.invariant.kept
     c.args.id c.requires.can.somebody free in
     record {
       owns_none = ap (λ (v : NodesView). ephemerals v.nodes c.number-in-Err.result)
@@ -55,7 +55,7 @@ stop-requires c =
     let s = c.self.inside in
     subst (λ (v : NodesView). AllHeld (undos_of (notes_of s.log)) v.held)
     (sym c.in_ok-open_owner.ensures.ok)
-    (notes_held s.nodes s.sessions s.time s.zxid (notes_of s.log) c.self.invariant)
+    (notes_held s.nodes s.sessions s.time s.zxid s.limits (notes_of s.log) c.self.invariant)
 
 pub invariant_of-self-2 : goal.invariant_of-self-2
 invariant_of-self-2 c =
@@ -70,5 +70,5 @@ invariant_of-self-2 c =
       c.in_default.ensures.ok,
       c.number.ensures,
     ) (
-    session_stored s.nodes s.nodes s.sessions s.time s.zxid (notes_of s.log) c.self.invariant
+    session_stored s.nodes s.nodes s.sessions s.time s.zxid s.limits (notes_of s.log) c.self.invariant
     c.args.id c.args.session can)

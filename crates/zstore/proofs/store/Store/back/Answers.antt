@@ -6,5 +6,5 @@ pub invariant_of-self : goal.invariant_of-self
 invariant_of-self c =
     let s = c.self.inside in
     rw c.undo.ensures.off
-    (stored_back s.nodes s.sessions s.time s.zxid (notes_of s.log) c.self.invariant
+    (stored_back s.nodes s.sessions s.time s.zxid s.limits (notes_of s.log) c.self.invariant
     c.undo.new.nodes c.undo.ensures.parts c.undo.ensures.owners)

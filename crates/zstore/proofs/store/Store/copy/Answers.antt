@@ -10,7 +10,7 @@ free_all-requires c =
     let nodes = c.in_ok-nodes.nodes in
     rw c.deref.ensures.value
     (subst (λ us. AllHeld us nodes.held) (undos_on s.log c.if-self.true)
-    (copy_held s.nodes s.sessions s.time s.zxid (notes_of s.log) c.self.invariant nodes
+    (copy_held s.nodes s.sessions s.time s.zxid s.limits (notes_of s.log) c.self.invariant nodes
     c.in_ok-nodes.ensures))
 
 pub invariant_of-result : goal.invariant_of-result
@@ -27,5 +27,5 @@ invariant_of-result c =
           (sym (undos_off s.log w.if-self.false))
     ] in
     rw (c.new.ensures, freed, c.in_ok-copy.ensures)
-    (stored_copied s.nodes s.sessions s.time s.zxid (notes_of s.log) c.self.invariant nodes
+    (stored_copied s.nodes s.sessions s.time s.zxid s.limits (notes_of s.log) c.self.invariant nodes
     c.in_ok-nodes.ensures)

@@ -11,7 +11,7 @@ pub returns-clause-found : goal.returns-clause-found
 returns-clause-found c =
     let s = c.self.inside in
     let found =
-    is_owned s.nodes s.sessions s.time s.zxid (notes_of s.log) c.self.invariant c.number.result
+    is_owned s.nodes s.sessions s.time s.zxid s.limits (notes_of s.log) c.self.invariant c.number.result
     c.first_owned.result c.first_owned.ensures.live c.first_owned.ensures.owned in
     subst (λ (h : StoreView). IfSome c.first_owned.result (IsOwned h c.args.session)) c.self.view_is
     (subst (λ n. IfSome c.first_owned.result (IsOwned (held_by s) n)) c.number.ensures found)

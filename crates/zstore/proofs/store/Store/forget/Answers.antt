@@ -13,7 +13,7 @@ stop-requires c =
     let s = c.self.inside in
     subst (λ (w : NodesView). AllHeld (undos_of (notes_of s.log)) w.held)
     (sym c.close_owner.ensures)
-    (notes_held s.nodes s.sessions s.time s.zxid (notes_of s.log) c.self.invariant)
+    (notes_held s.nodes s.sessions s.time s.zxid s.limits (notes_of s.log) c.self.invariant)
 
 pub invariant_of-self : goal.invariant_of-self
 invariant_of-self c =
@@ -30,7 +30,7 @@ invariant_of-self c =
       c.end.ensures,
     ) (
     stored_plain (record s.nodes { owners = finite.remove s.nodes.owners id })
-    (finite.remove s.sessions id) s.time s.zxid (release_all us s.nodes.held)
-    (none_held s.nodes s.sessions s.time s.zxid (notes_of s.log) c.self.invariant)
-    (kept_ended s.nodes.nodes s.nodes.places s.sessions s.time s.zxid c.self.invariant.kept id none)
+    (finite.remove s.sessions id) s.time s.zxid s.limits (release_all us s.nodes.held)
+    (none_held s.nodes s.sessions s.time s.zxid s.limits (notes_of s.log) c.self.invariant)
+    (kept_ended s.nodes.nodes s.nodes.places s.sessions s.time s.zxid s.limits c.self.invariant.kept id none)
     (owners_ended s.nodes.owners s.sessions id c.self.invariant.owners))

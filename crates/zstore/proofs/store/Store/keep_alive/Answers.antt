@@ -12,7 +12,7 @@ use Rattle.zstore.proofs.store.Store.keep_alive.Goals as goal
 
 pub stop-requires : goal.stop-requires
 stop-requires c = let s =
-    c.self.inside in notes_held s.nodes s.sessions s.time s.zxid (notes_of s.log) c.self.invariant
+    c.self.inside in notes_held s.nodes s.sessions s.time s.zxid s.limits (notes_of s.log) c.self.invariant
 
 pub invariant_of-self-2 : goal.invariant_of-self-2
 invariant_of-self-2 c =
@@ -24,8 +24,8 @@ invariant_of-self-2 c =
     λ x at. (c.requires.deadline x
     (ap (λ (h : StoreView). finite.get h.tree.sessions id) (sym c.self.view_is) ∙ at)).0 in
     rw (c.stop.ensures.off, c.stop.ensures.nodes, renewed)
-    (stored_changed s.nodes s.sessions s.time s.zxid (notes_of s.log) c.self.invariant
-    (with_renewed_session (tree_of s.nodes.nodes s.sessions s.time s.zxid) id).sessions s.time
-    s.zxid
-    (kept_touched s.nodes.nodes s.nodes.places s.sessions s.time s.zxid c.self.invariant.kept id
+    (stored_changed s.nodes s.sessions s.time s.zxid s.limits (notes_of s.log) c.self.invariant
+    (with_renewed_session (tree_of s.nodes.nodes s.sessions s.time s.zxid s.limits) id).sessions s.time
+    s.zxid s.limits
+    (kept_touched s.nodes.nodes s.nodes.places s.sessions s.time s.zxid s.limits c.self.invariant.kept id
     some) (owners_touched s.nodes.owners s.sessions id c.self.invariant.owners s.time))

@@ -9,13 +9,13 @@ use Rattle.zstore.proofs.store.Store.mark.Goals as goal
 
 pub start-requires : goal.start-requires
 start-requires c = let s =
-    c.self.inside in notes_held s.nodes s.sessions s.time s.zxid (notes_of s.log) c.self.invariant
+    c.self.inside in notes_held s.nodes s.sessions s.time s.zxid s.limits (notes_of s.log) c.self.invariant
 
 pub invariant_of-self : goal.invariant_of-self
 invariant_of-self c =
     let s = c.self.inside in
     rw c.in_err-start.ensures.err
-    (stored_freed s.nodes s.sessions s.time s.zxid (notes_of s.log) c.self.invariant
+    (stored_freed s.nodes s.sessions s.time s.zxid s.limits (notes_of s.log) c.self.invariant
     c.start.new.nodes c.start.ensures.nodes)
 
 pub invariant_of-self-2 : goal.invariant_of-self-2
@@ -23,7 +23,7 @@ invariant_of-self-2 c =
     let s = c.self.inside in
     let started = c.in_ok-start.ensures.ok in
     rw started.on
-    (stored_started s.nodes s.sessions s.time s.zxid (notes_of s.log) c.self.invariant
+    (stored_started s.nodes s.sessions s.time s.zxid s.limits (notes_of s.log) c.self.invariant
     c.start.new.nodes c.start.ensures.nodes started.notes_room started.within)
 
 pub returns-clause-marked : goal.returns-clause-marked
@@ -31,7 +31,7 @@ returns-clause-marked c =
     let s = c.self.inside in
     let started = c.in_ok-start.ensures.ok in
     let tree =
-    ap (λ (v : NodesView). tree_of v.nodes s.sessions s.time s.zxid) c.start.ensures.nodes
+    ap (λ (v : NodesView). tree_of v.nodes s.sessions s.time s.zxid s.limits) c.start.ensures.nodes
     ∙ ap (λ (h : StoreView). h.tree) c.self.view_is in
     let places = ap (λ (v : NodesView). v.places) c.start.ensures.nodes
     ∙ ap (λ (h : StoreView). h.places) c.self.view_is in
@@ -42,9 +42,9 @@ returns-clause-marked c =
         ap (λ (v : NodesView). v.given) c.start.ensures.nodes
             ∙ ap (λ (h : StoreView). h.given) c.self.view_is,
       );
-      mark = mark_of c.start.new.nodes s.sessions s.time s.zxid
+      mark = mark_of c.start.new.nodes s.sessions s.time s.zxid s.limits
           (record { undos = []; room = started.notes_room });
-      marked = ap (option_map (mark_of c.start.new.nodes s.sessions s.time s.zxid)) started.on;
+      marked = ap (option_map (mark_of c.start.new.nodes s.sessions s.time s.zxid s.limits)) started.on;
       tree_here = tree;
       places_here = places;
       room = started.enough;

@@ -14,7 +14,7 @@ note-requires c =
     let live =
     subst (λ (h : StoreView). IsSome (path_of h c.args.id)) (sym c.self.view_is) c.requires.live
     in
-    content_held s.nodes put.new.self s.sessions s.time s.zxid (notes_of s.log) c.self.invariant
+    content_held s.nodes put.new.self s.sessions s.time s.zxid s.limits (notes_of s.log) c.self.invariant
     c.args.id live c.args.content put.result put.ensures.written put.ensures.before
 
 pub invariant_of-self : goal.invariant_of-self
@@ -25,7 +25,7 @@ invariant_of-self c =
     subst (λ (h : StoreView). IsSome (path_of h c.args.id)) (sym c.self.view_is) c.requires.live
     in
     rw (c.note.ensures.notes, c.note.ensures.nodes)
-    (content_stored s.nodes put.new.self s.sessions s.time s.zxid (notes_of s.log)
+    (content_stored s.nodes put.new.self s.sessions s.time s.zxid s.limits (notes_of s.log)
     c.self.invariant c.args.id live c.args.content put.result put.ensures.written
     put.ensures.before)
 
@@ -37,7 +37,7 @@ returns-clause-marked c =
     subst (λ (h : StoreView). IsSome (path_of h c.args.id)) (sym c.self.view_is) c.requires.live
     in
     rw (c.note.ensures.notes, c.note.ensures.nodes, ← c.self.view_is) (
-    noted_marked (Written c.args.id put.result) s.nodes put.new.self s.sessions s.time s.zxid
-    (content_back s.nodes put.new.self s.sessions s.time s.zxid (notes_of s.log) c.self.invariant
+    noted_marked (Written c.args.id put.result) s.nodes put.new.self s.sessions s.time s.zxid s.limits
+    (content_back s.nodes put.new.self s.sessions s.time s.zxid s.limits (notes_of s.log) c.self.invariant
     c.args.id live c.args.content put.result put.ensures.written put.ensures.before)
     (notes_of s.log))

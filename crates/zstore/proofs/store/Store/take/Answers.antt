@@ -24,7 +24,7 @@ note-requires c =
     let over =
     subst (λ (h : StoreView). AtPath h c.args.id (λ path. path_of h c.args.parent ≡ Some (parent_of path)))
     (sym c.self.view_is) c.requires.under in
-    take_held s.nodes c.take.new.self s.sessions s.time s.zxid (notes_of s.log) c.self.invariant
+    take_held s.nodes c.take.new.self s.sessions s.time s.zxid s.limits (notes_of s.log) c.self.invariant
     c.args.id live c.take.ensures c.args.parent below over
 
 pub invariant_of-self : goal.invariant_of-self
@@ -43,7 +43,7 @@ invariant_of-self c =
     subst (λ (h : StoreView). AtPath h c.args.id (λ path. children h.tree.nodes path ≡ []))
     (sym c.self.view_is) c.requires.leaf in
     rw (c.note.ensures.notes, c.note.ensures.nodes)
-    (take_stored s.nodes c.take.new.self s.sessions s.time s.zxid (notes_of s.log)
+    (take_stored s.nodes c.take.new.self s.sessions s.time s.zxid s.limits (notes_of s.log)
     c.self.invariant c.args.id live c.take.ensures c.args.parent below over leaf)
 
 pub returns-clause-marked : goal.returns-clause-marked
@@ -56,8 +56,8 @@ returns-clause-marked c =
     subst (λ (h : StoreView). AtPath h c.args.id (λ path. path ≢ [])) (sym c.self.view_is)
     c.requires.below_root in
     rw (c.note.ensures.notes, c.note.ensures.nodes, ← c.self.view_is) (
-    noted_marked (Taken c.args.id c.args.parent) s.nodes c.take.new.self s.sessions s.time s.zxid
-    (take_back s.nodes c.take.new.self s.sessions s.time s.zxid (notes_of s.log) c.self.invariant
+    noted_marked (Taken c.args.id c.args.parent) s.nodes c.take.new.self s.sessions s.time s.zxid s.limits
+    (take_back s.nodes c.take.new.self s.sessions s.time s.zxid s.limits (notes_of s.log) c.self.invariant
     c.args.id live c.take.ensures c.args.parent below)
     (notes_of s.log))
 
@@ -68,9 +68,9 @@ returns-clause-tree c = λ path named.
     subst (λ (h : StoreView). IsSome (path_of h c.args.id)) (sym c.self.view_is) c.requires.live
     in
     let is = ap (λ (h : StoreView). path_of h c.args.id) c.self.view_is ∙ named in
-    ap (λ (v : NodesView). tree_of v.nodes s.sessions s.time s.zxid) c.note.ensures.nodes
-    ∙ ap (λ m. tree_of m s.sessions s.time s.zxid)
-    (take_nodes s.nodes c.take.new.self s.sessions s.time s.zxid (notes_of s.log)
+    ap (λ (v : NodesView). tree_of v.nodes s.sessions s.time s.zxid s.limits) c.note.ensures.nodes
+    ∙ ap (λ m. tree_of m s.sessions s.time s.zxid s.limits)
+    (take_nodes s.nodes c.take.new.self s.sessions s.time s.zxid s.limits (notes_of s.log)
     c.self.invariant c.args.id live c.take.ensures c.args.parent path is)
     ∙ ap (λ (h : StoreView). record h.tree { nodes = finite.remove h.tree.nodes path })
     c.self.view_is
@@ -82,7 +82,7 @@ returns-clause-forgotten c =
     subst (λ (h : StoreView). IsSome (path_of h c.args.id)) (sym c.self.view_is) c.requires.live
     in
     ap (λ (v : NodesView). v.places) c.note.ensures.nodes
-    ∙ take_places s.nodes c.take.new.self s.sessions s.time s.zxid (notes_of s.log) c.self.invariant
+    ∙ take_places s.nodes c.take.new.self s.sessions s.time s.zxid s.limits (notes_of s.log) c.self.invariant
     c.args.id live c.take.ensures c.args.parent
     ∙ ap (λ (h : StoreView). finite.remove h.places c.args.id) c.self.view_is
 
@@ -93,7 +93,7 @@ returns-clause-gone c = λ a.
     subst (λ (h : StoreView). IsSome (path_of h c.args.id)) (sym c.self.view_is) c.requires.live
     in
     ap (λ (v : NodesView). finite.get v.places a) c.note.ensures.nodes
-    ∙ take_gone s.nodes c.take.new.self s.sessions s.time s.zxid (notes_of s.log) c.self.invariant
+    ∙ take_gone s.nodes c.take.new.self s.sessions s.time s.zxid s.limits (notes_of s.log) c.self.invariant
     c.args.id live c.take.ensures c.args.parent a
     ∙ ap (λ (v : NodesView). option_and_then (while_there v.nodes) (finite.get s.nodes.places a))
     (sym c.note.ensures.nodes)
@@ -107,6 +107,6 @@ returns-clause-given c =
     subst (λ (h : StoreView). IsSome (path_of h c.args.id)) (sym c.self.view_is) c.requires.live
     in
     ap (λ (v : NodesView). v.given) c.note.ensures.nodes
-    ∙ take_given s.nodes c.take.new.self s.sessions s.time s.zxid (notes_of s.log) c.self.invariant
+    ∙ take_given s.nodes c.take.new.self s.sessions s.time s.zxid s.limits (notes_of s.log) c.self.invariant
     c.args.id live c.take.ensures c.args.parent
     ∙ ap (λ (h : StoreView). h.given) c.self.view_is

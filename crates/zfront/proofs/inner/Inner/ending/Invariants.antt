@@ -1,0 +1,9 @@
+use Rattle.std.proofs.Common.{◌≡◌, ◌++◌, drop}
+use Rattle.std.specs.List.{flat_map}
+use Rattle.zfront.specs.Front.{ended_by}
+use Rattle.zfront.proofs.inner.Inner.ending.Given as goal
+
+-- those so far and those of the calls that are left are all
+abbrev pub invariant-loop-call : goal.invariant-loop-call
+invariant-loop-call g l =
+    l.ids.items ++ flat_map (ended_by l.self.tree) (drop l.call-index l.calls) ≡ flat_map (ended_by l.self.tree) l.calls
