@@ -99,7 +99,7 @@ ones [] = refl
 ones (e ∷ es) = let rest = ones es in omega (arith, rest)
 
 -- and as much as each can have
-fulls : (es : List (Path × Node)) → sum_of (λ _. 1048576) es ≡ 1048576 * length es
+fulls : (es : List (Path × Node)) → sum_of (λ _. 1048487) es ≡ 1048487 * length es
 fulls [] = refl
 fulls (e ∷ es) = let rest = fulls es in omega (arith, rest)
 
@@ -119,9 +119,9 @@ module _ (nodes : Nodes) (c : Counts) (are : AreCounts nodes c) where
       let all = len-entries nodes in
       omega (arith, most, count, all, are.owned)
 
-  pub bytes-most : c.bytes ≤ 1048576 * finite.len nodes
+  pub bytes-most : c.bytes ≤ 1048487 * finite.len nodes
   bytes-most =
-      let most = sum-bounded size_of (λ _. 1048576) nodes (λ q n found. are.small q n found) in
+      let most = sum-bounded size_of (λ _. 1048487) nodes (λ q n found. are.small q n found) in
       let count = fulls (entries nodes) in
       let all = len-entries nodes in
       omega (arith, most, count, all, are.bytes)
