@@ -323,4 +323,8 @@ impl<R: Files<File = File> + Copy> Device for FileDevice<R> {
         self.sync_folder()?; // now its name is durable
         Ok(())
     }
+
+    fn split(&mut self) -> Result<(), DeviceError> {
+        Err(self.refuse())
+    }
 }
