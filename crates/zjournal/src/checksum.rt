@@ -88,13 +88,13 @@ pub fn digits_of(sum: u32) -> [u8; 8]
 }
 
 // Returns the number of a hexadecimal digit, and 0 for any other byte.
-fn number_of(digit: u8) -> u32
+fn number_of(byte: u8) -> u32
     ensures small { result < 16 }
-    ensures digit { (n : ℕ) → n < 16 → digit ≡ digit n → result ≡ n }
+    ensures number { (n : ℕ) → n < 16 → byte ≡ digit n → result ≡ n }
 {
-    match digit {
-        48..=57 => u32::from(digit) - 48,
-        97..=102 => u32::from(digit) - 87,
+    match byte {
+        48..=57 => u32::from(byte) - 48,
+        97..=102 => u32::from(byte) - 87,
         _ => 0,
     }
 }
