@@ -156,19 +156,21 @@ fn do_task<R: Files<File = File> + Copy, K: Sink, F: Sink>(
     ensures { OnOk result (HasDone R task last
         (sink_run K.took K.failed sink.old sink.new)) }
 {
-    if task == Task::Beginning {
-        return match FileDevice::open_beginning(alloc, files, folder, SyncMode::Batch)? {
+    match task {
+        Task::Compact => compact(alloc, found(alloc, files, folder)?, last, sink, faults),
+        Task::Beginning => match FileDevice::open_beginning(alloc, files, folder, SyncMode::Batch)? {
             Some(device) => compact_beginning(alloc, device, last, sink),
             None => Ok(()),
-        };
+        },
+        Task::Export => {
+            let mut device = found(alloc, files, folder)?;
+            export(alloc, &mut device, last, sink, faults)
+        }
+        Task::Stat => {
+            let mut device = found(alloc, files, folder)?;
+            stat(alloc, &mut device, last, sink, faults)
+        }
     }
-    let mut device = found(alloc, files, folder)?;
-    match task {
-        Task::Compact => compact(alloc, device, last, sink, faults)?,
-        Task::Export => export(alloc, &mut device, last, sink, faults)?,
-        _ => stat(alloc, &mut device, last, sink, faults)?,
-    }
-    Ok(())
 }
 
 // Takes all messages (`serve`), behind a guard if there are logins.
