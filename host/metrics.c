@@ -48,7 +48,7 @@ static void put_one(const char *type, const char *name, uint64_t value) {
 static void put_counts(void) {
     static const char *const kinds[KINDS] = {
         "connections_refused", "accepts_failed", "closed_unread", "closed_long_requests",
-        "slow_batches", "compactions"};
+        "slow_batches", "requests_limited", "compactions"};
     put_one("counter", "jellqupas_connections_accepted", counts.accepted);
     put_one("counter", "jellqupas_strangers_refused", counts.strangers);
     put_one("counter", "jellqupas_bytes_received", counts.received);

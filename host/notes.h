@@ -15,6 +15,8 @@ enum kind {
     LONG_REQUESTS,
     /* A batch took longer than SLOW. */
     SLOW_BATCH,
+    /* A request was refused with SystemError. */
+    LIMITED,
     /* The journal was replaced by a shorter one. */
     COMPACTED,
     KINDS
