@@ -36,8 +36,12 @@ mod marks;
 mod mode;
 mod numbers;
 mod opening;
+mod parts;
+mod place;
 mod record;
+mod replacing;
 pub mod rows;
+mod splitting;
 mod tail;
 
 pub use device::FileDevice;
