@@ -1,6 +1,6 @@
 //! A device over one file of the system. Each method makes one call, and then records it with its
-//! result. The new file replaces the old one in three such steps (`replacing`), and a new part begins
-//! in four (`splitting`).
+//! result. The new file replaces the old one in three such steps (`replacing.rt`), and a new part
+//! begins in four (`splitting.rt`).
 //!
 //! # Why
 //! After a failed call on the file the device makes no more. A failed write may have put some of its
@@ -27,9 +27,9 @@ use crate::{Device, DeviceError};
 use std::alloc::Global;
 use std::fs::{File, Files};
 
-/// The file `journal` of a folder, which may be the last of several parts. It is locked until this is
-/// dropped, also when a new one, `journal.new`, replaces it or continues it. Or it is the beginning:
-/// the parts before the last one.
+/// The file `journal` of a folder, the last of its parts. It is locked until this is dropped, also
+/// when a new one, `journal.new`, replaces or continues it. Or the parts before the last one, with
+/// their folder locked.
 #[derive(Drop)]
 pub struct FileDevice<R> {
     pub(super) files: R,

@@ -40,8 +40,8 @@ impl<R: Files<File = File> + Copy> FileDevice<R> {
         remove(&self.files, &self.place.failed_path);
     }
 
-    /// Removes new files that a crash left unfinished, if that can be done. One that this device has
-    /// begun stays. To be called before `share`: later, another process may be writing one.
+    /// Removes new files that a crash left unfinished, if that can be done. One that this device
+    /// has begun stays. To be called before `share`: later, another process may be writing one.
     pub fn remove_unfinished(&self) {
         if self.beside.is_none() {
             remove(&self.files, &self.place.new_path);
@@ -56,8 +56,9 @@ impl<R: Files<File = File> + Copy> FileDevice<R> {
         self.place.start
     }
 
-    /// Releases the folder's lock. From now on another process may replace the parts before the last
-    /// one. No new file replaces the whole while it does.
+    /// Releases the folder's lock. From now on another process may replace the parts before the
+    /// last one. While it is at work, no new file replaces the whole. One that does takes the lock
+    /// again.
     pub fn share(&self) {
         unlock(&self.place.folder);
     }

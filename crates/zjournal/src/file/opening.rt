@@ -6,8 +6,8 @@
 //! opening checks the name again under its lock. Each opening syncs the file, its folder and the
 //! folder above, since an earlier process may have been killed before it did.
 //!
-//! The folder has a lock too. It is that of all parts but the last one, which a server may share with
-//! a process that replaces them.
+//! The folder has a lock too, which is that of the parts before the last one. A server may leave it
+//! to a process that replaces them.
 //!
 //! Two processes may find the folder missing at once. The one that makes it second opens it as it
 //! is, and then finds the file locked.

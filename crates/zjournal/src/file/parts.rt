@@ -1,9 +1,9 @@
 //! The parts of a file: how they are found and read, and how a new one is made.
 //!
 //! The last part is `journal`. A part that begins with `after 0000000007` and a newline continues
-//! `journal.7`; else it is whole. The content is that of the parts in order, without these 17 bytes,
-//! and of each but the last without its last byte. That one is a clear commit byte, and the next
-//! part has one of its own. A numbered file that no part continues counts for nothing.
+//! `journal.7`; else it is whole. The content is that of the parts in order, without these 17
+//! bytes. Each part but the last counts without its last byte: that one is a clear commit byte, and
+//! the next part has one of its own. A numbered file that no part continues counts for nothing.
 //!
 //! # Why
 //! The number is in the part itself, so one rename changes the name and what it continues at once.

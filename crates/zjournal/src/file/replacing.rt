@@ -1,5 +1,5 @@
-//! How a new file replaces the old one. Each method makes one call on a file or the folder, and then
-//! records it with its result.
+//! How a new file replaces the old one. Each method makes one call on a file or the folder, and
+//! then records it with its result.
 
 ghost use Rattle.std.specs.Prelude.{◌≡◌, ◌∷◌, true, false, IfErr, OnErr, OnOk};
 ghost use Rattle.zjournal.specs.declared.device.DeviceError.TheVariants.{Failed};

@@ -98,8 +98,8 @@ pub fn failed_new_files_are_ended()
         ∷ added false (8 ∷ []) ∷ begun true ∷ held (1 ∷ []) ∷ []) (7 ∷ 7 ∷ []) }
 {}
 
-/// A split changes nothing. Once the new part's name is durable, a sync of the file makes durable what
-/// is written. A part that isn't begun ends the new file, and else leaves all as it was.
+/// A split changes nothing. Once the new part's name is durable, a sync of the file makes durable
+/// what is written. A part ends the new file, and one that isn't begun leaves all else as it was.
 pub fn parts_change_nothing()
     ensures seen { (replay (part_named true ∷ part_settled Batch true ∷ part_begun true
         ∷ held (1 ∷ 0 ∷ []) ∷ [])).seen ≡ 1 ∷ 0 ∷ [] }

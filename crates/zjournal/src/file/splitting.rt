@@ -1,11 +1,12 @@
-//! How a file begins a new part. Each method makes its calls on the new part or the folder, and then
-//! records them with their result.
+//! How a file begins a new part. Each method makes its calls on the new part or the folder, and
+//! then records them with their result.
 //!
 //! # Why
-//! The part so far keeps its content under a second name, `journal.7`, and loses the name `journal` to
-//! the new one. That begins with the last byte of the part before it, so the folder has the same
-//! content by either name. Until that name is durable nothing is written to the new part. A split
-//! that fails before the rename leaves a second name at most, which counts for nothing.
+//! The part so far gets a second name, `journal.7`, and then loses the name `journal` to the new
+//! one. That begins with the last byte of the part before it, so the folder has the same content by
+//! either name. Until that name is durable, nothing is written to the new part. The part before it
+//! is durable when a split begins, and is written no more. A split that fails before the rename
+//! leaves a second name at most, which counts for nothing.
 
 ghost use Rattle.std.specs.Prelude.{◌≡◌, ◌∷◌, true, false, IfErr, OnErr, OnOk};
 ghost use Rattle.zjournal.specs.declared.device.DeviceError.TheVariants.{Failed};
