@@ -10,7 +10,8 @@
 //! The mark needs no sync: a crash that loses it loses those pages as well.
 
 use crate::file::FileFault;
-use crate::file::opening::{Place, new_file, open_new};
+use crate::file::opening::{new_file, open_new};
+use crate::file::place::Place;
 use std::fs;
 use std::fs::{File, Files};
 use std::io::ErrorKind;
