@@ -1,7 +1,7 @@
 """A server's folder of an older version, whose journal is written anew in the format of this one.
 
 An older journal has another head: version 1 has no word there, and version 2 has one of two. With
-the second word, all but the head is as now. Before that, a snapshot has no limits of the tree, since
+the second word, all but the head is as now. Before that a snapshot has no limits of the tree, since
 all had the same, and its nodes have no version of their access control lists. Entries are the same.
 The old file stays as journal.old.
 """

@@ -1,4 +1,4 @@
-"""A full disk: a server goes on with the parts that it has, and later begins one, and compacts them."""
+"""A full disk: a server goes on with the parts that it has, and tries again later."""
 import os
 
 import parts
@@ -47,7 +47,7 @@ class Full:
 
 
 def goes_on(builds, takes_none):
-    """A full disk puts parts or compactions off, over kills, until it has room; no change is lost."""
+    """A full disk puts parts, or compactions, off until it has room. No change is lost."""
     full = Full(builds, takes_none)
     server = full.server()
     it = server.client()

@@ -1,4 +1,4 @@
-"""Copies of a folder in use, which `stat` and `export` read: of all parts, amid writes and compactions."""
+"""Copies of a folder in use, for `stat` and `export`: amid writes, new parts and compactions."""
 import base64
 import fcntl
 import os
@@ -70,8 +70,8 @@ def renewed(builds):
     whole, (host, of) = do(builds, folder, "export")[1], words_of(builds)[:2]
     library = builds.compiled("renewed.so", ["tools/tests/renewed.c"], ["-shared", "-fPIC"])
     words = [host, "export", of, "--data", folder]
-    for places, name, end in (([], "journal", len(held)), (found[3:12:4], "journal.2", found[7])):
-        parts.put(folder, held, places[:2])
+    for places, name, end in (([], "journal", len(held)), (found[3:11:4], "journal.2", found[7])):
+        parts.put(folder, held, places)
         write(f"{folder}.new", held[:end] + b"\0" * (end < len(held)))
         changes = [f"NEW={folder}.new", f"OLD={folder}/{name}", f"GONE={folder}/journal.1"]
         with open(f"{folder}/journal", "rb") as first, open(f"{folder}.new", "rb") as second:

@@ -1,5 +1,7 @@
-"""The parts of a folder's journal: a server begins them, and a process beside it compacts those before
-the last one. The tree is the same over all of that, over kills and in copies."""
+"""The parts of a folder's journal: a server begins them, and a process beside compacts all but one.
+
+The tree is the same over all of that, and over kills at each call.
+"""
 import base64
 import contextlib
 import fcntl
@@ -10,7 +12,7 @@ import signal
 
 import running
 import serving
-from mending import bytes_of, do, made, write
+from mending import SYNCS, bytes_of, do, made, write
 from report import Test, want, want_same
 from servers import PROFILE, Server, ended, new_folder, program, until, words_of
 from wire import Ended
@@ -20,7 +22,6 @@ SHORT, PAD = ("--journal", "1"), b" " * 60000
 HEADING, BLOCKS, MOST_CALLS = re.compile(rb"after (\d{10})\n"), 20, 100
 TOLD = re.compile(r"zk: the journal was compacted: (\d+) bytes before, (\d+) after, ")
 NOT_TOLD = "zk: the journal isn't compacted: "
-ENDS = ["tools/tests/ends.c"], ["-shared", "-fPIC"]
 
 
 def chain(folder):
@@ -99,17 +100,16 @@ def beginning(builds):
         put(folder, held, before)
         want_same(do(builds, folder, "beginning"), (0, "", ""), "nothing is to be done")
         want_same(content(folder), held, "nothing is done")
-    library, faults = builds.compiled("ends.so", *ENDS), f"{folder}.faults"
-    syncs = builds.compiled("syncs.so", ["tools/tests/syncs.c"], ["-shared", "-fPIC"])
-    for variables in ((f"LD_PRELOAD={library}", "SENT=9"),
-                      (f"LD_PRELOAD={syncs}", f"FAULTS={faults}")):
+    library, faults = builds.compiled("syncs.so", *SYNCS), f"{folder}.faults"
+    for stops in ("SENT=9", f"FAULTS={faults}"):
         for calls in range(MOST_CALLS):
             put(folder, held, places)
             write(faults, b"%d" % calls)
             with open(f"{folder}/journal", "rb") as last:
                 # (as a server has it)
                 fcntl.flock(last, fcntl.LOCK_EX)
-                got = do(builds, folder, "beginning", 1, ("env", *variables, f"AT={calls}"))
+                wrap = "env", f"LD_PRELOAD={library}", stops, f"AT={calls}"
+                got = do(builds, folder, "beginning", wrap=wrap)
             want_same(do(builds, folder, "export"), whole, f"the tree after {calls} calls, {got}")
             if not got[0]:
                 break
@@ -122,7 +122,7 @@ def beginning(builds):
 
 def begun(builds):
     """A server is killed at each call by which it begins a part. No change is lost."""
-    library = builds.compiled("ends.so", *ENDS)
+    library = builds.compiled("syncs.so", *SYNCS)
     for calls in range(12):
         text = f'LD_PRELOAD={library} FROM=link AT={calls} SENT=9 exec ' \
                f'{builds.program(serving.PROGRAM)} "$@"'
@@ -155,7 +155,7 @@ class Beside:
     def __init__(self, builds):
         self.builds, self.folder, self.number = builds, new_folder(builds), 0
         self.mark = f"{os.path.dirname(self.folder)}/stopped"
-        library, own = builds.compiled("ends.so", *ENDS), builds.program(serving.PROGRAM)
+        library, own = builds.compiled("syncs.so", *SYNCS), builds.program(serving.PROGRAM)
         stopped = f"LD_PRELOAD={library} AT=8 SENT={int(signal.SIGSTOP)}"
         text = f'[ "$2" = beginning ] && [ -e {self.mark} ] && export {stopped}\nexec {own} "$@"'
         self.words = ("--program", program(builds, text), *SHORT, *PROFILE)

@@ -1,4 +1,4 @@
-"""A folder of an older version: it is refused, and says how it is upgraded. Then it is as it was."""
+"""A folder of an older version is refused, and says how it is upgraded. Then it is as it was."""
 import base64
 import fcntl
 import os
