@@ -49,7 +49,8 @@ def copies(builds):
             want((status, "of a copy" in said) == (0, True), f"{status} {out} {said}")
             found = int(base64.b64decode(out.split()[-1]))
             want(answered <= found, f"{found} copied, {answered} acknowledged")
-            want_same(ended([*words, "stat", of, "--data", folder])[0], 0, "stat")
+            status, out, said = ended([*words, "stat", of, "--data", folder])
+            want_same(status, 0, f"stat: {said}")
         until(lambda: writer.answered > answered)
     want(most > 1, f"{most} parts at most")
     with Server(builds, folder) as server, server.client() as it:
@@ -65,7 +66,7 @@ def copies(builds):
 
 
 def renewed(builds):
-    """A compaction amid a copy, of the only part and of those before the last one: all is copied."""
+    """A compaction amid a copy, of the only part, and of those before the last one."""
     folder, held, found = made(builds, 20)
     whole, (host, of) = do(builds, folder, "export")[1], words_of(builds)[:2]
     library = builds.compiled("renewed.so", ["tools/tests/renewed.c"], ["-shared", "-fPIC"])

@@ -1,6 +1,6 @@
-/* Preloaded into a program: while the file that FULL names is there, the disk has no room for a file
-   journal.new or journal.begin of more than 4,096 bytes. If the file that FULL names has bytes, it
-   has none at all. */
+/* Preloaded into a program: while the file that FULL names is there, the disk has no room for a
+   file journal.new or journal.begin of more than 4,096 bytes. If the file that FULL names has
+   bytes, it has none at all. */
 #define _GNU_SOURCE
 #include <errno.h>
 #include <fcntl.h>

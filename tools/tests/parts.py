@@ -90,6 +90,10 @@ def reads(builds):
     want_same((do(builds, folder, "compact")[0], files_of(folder)),
               (0, ["journal", "secret"]), "what compact leaves")
     want("/more" in do(builds, folder, "export")[1], "all is there")
+    put(folder, held, [found[3], found[9]])
+    with Server(builds, folder):
+        want_same(files_of(folder), ["journal", "secret"], "what a start with other limits leaves")
+    want_same(do(builds, folder, "export"), whole[0], "the tree is the same")
 
 
 def beginning(builds):
@@ -135,7 +139,7 @@ def begun(builds):
                 it.set("/a", b"%d" % number + PAD)
             want(False, f"it isn't killed at call {calls}")
         server.stop(0, 1, "zk: zk_serve was ended by signal 9\n")
-        with Server(builds, folder, PROFILE) as server, server.client() as it:
+        with Server(builds, folder) as server, server.client() as it:
             data, stat = it.get("/a")
             same = number <= stat.version <= number + 1 and int(data) == stat.version - 1
             want(same, f"{stat.version} sets, {number} acknowledged, killed at call {calls}")
@@ -185,7 +189,7 @@ class Beside:
 
 
 def beside(builds):
-    """A server goes on while its parts are compacted, and after that is killed; and the other way."""
+    """A server goes on while its parts are compacted. Either of the two is killed meanwhile."""
     it = Beside(builds)
     with it.server() as server, server.client() as client:
         client.create("/a", b"0")
@@ -199,11 +203,12 @@ def beside(builds):
         it.stop_one(server, client)
         it.wants_all(client)
     want_same(do(builds, it.folder, "compact")[0], 0, "no one has the folder once it has ended")
-    want_same(files_of(it.folder), ["journal", "secret"], "one whole file")
+    want_same(parts_of(it.folder), 1, "one whole part")
     for of_child in (False, True):
         server = it.server()
         client = server.client()
         it.wants_all(client)
+        want("journal.begin" not in files_of(it.folder), "what was unfinished is removed")
         it.stop_one(server, client)
         server.kill(of_child)
     with it.server() as server, server.client() as client:

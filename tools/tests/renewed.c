@@ -1,5 +1,5 @@
-/* Preloaded into a program: before it first copies a file, the file that NEW names takes the name OLD,
-   the one that had it is cut to nothing, and the file GONE is removed, as in a compaction. */
+/* Preloaded into a program: before it first copies a file, the file that NEW names takes the name
+   OLD, the one that had it is cut to nothing, and GONE is removed, as in a compaction. */
 #define _GNU_SOURCE
 #include <fcntl.h>
 #include <stdio.h>

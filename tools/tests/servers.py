@@ -18,7 +18,7 @@ LAST = re.compile(r"zk: (?:anyone who can connect|calls are made by who gives) .
 PROFILE = ("--nodes=4096", "--sessions=1024")
 NOTED = re.compile(
     r"zk: (?:a batch took|a connection is|metrics at|the journal (?:was|isn't)|.* s so far"
-    r"|refused a connection).*\n")
+    r"|a request is refused|refused a connection).*\n")
 
 
 def free_port():
