@@ -1,12 +1,11 @@
 """Copies of a folder in use, for `stat` and `export`: amid writes, new parts and compactions."""
 import base64
-import fcntl
 import os
 import threading
 
 import parts
 from frames import *
-from mending import do, made, write
+from mending import do, locked, made, write
 from report import Test, want, want_same
 from servers import Server, ended, new_folder, until, words_of
 from wire import Ended
@@ -55,8 +54,7 @@ def copies(builds):
     want(most > 1, f"{most} parts at most")
     with Server(builds, folder) as server, server.client() as it:
         it.create("/b", b"so that the last part has a block")
-    with open(f"{folder}/journal", "r+b") as file:
-        fcntl.flock(file, fcntl.LOCK_EX)
+    with locked(f"{folder}/journal") as file:
         for missing in range(1, 13):
             # (the last block is being written, and its commit byte was set since it was looked at)
             file.truncate(os.path.getsize(f"{folder}/journal") - 1)
@@ -75,8 +73,7 @@ def renewed(builds):
         parts.put(folder, held, places)
         write(f"{folder}.new", held[:end] + b"\0" * (end < len(held)))
         changes = [f"NEW={folder}.new", f"OLD={folder}/{name}", f"GONE={folder}/journal.1"]
-        with open(f"{folder}/journal", "rb") as first, open(f"{folder}.new", "rb") as second:
-            fcntl.flock(first, fcntl.LOCK_EX), fcntl.flock(second, fcntl.LOCK_EX)
+        with locked(f"{folder}/journal"), locked(f"{folder}.new"):
             status, out, said = ended([
                 "env", f"LD_PRELOAD={library}", "ASAN_OPTIONS=verify_asan_link_order=0", *changes,
                 *words])
@@ -84,8 +81,7 @@ def renewed(builds):
         want(not os.path.exists(f"{folder}.new"), "it was replaced")
         want_same(parts.content(folder), held, "what was copied")
     os.remove(f"{folder}/journal.2")
-    with open(f"{folder}/journal", "rb") as first:
-        fcntl.flock(first, fcntl.LOCK_EX)
+    with locked(f"{folder}/journal"):
         said = f"zk: data: {folder}/journal.2: No such file or directory\n"
         want_same(ended(words), (3, "", said), "a part that is missing")
 

@@ -1,13 +1,11 @@
 """The folder of a server: what was acknowledged is kept, over kills, full disks and restarts."""
 import base64
-import fcntl
 import os
 import random
 import re
 import shutil
 import signal
 import tempfile
-import threading
 import time
 
 import compactions
@@ -18,7 +16,7 @@ import upgrades
 from copying import Writer
 from frames import *
 from report import Failed, Test, want, want_same
-from servers import PROFILE, Server, ended, new_folder, program, serving, until, words_of
+from servers import Server, ended, new_folder, program, serving, until, words_of
 from wire import NO_SESSION, Ended, greeted, refused
 
 LIVES = 10

@@ -2,19 +2,16 @@
 
 The tree is the same over all of that, and over kills at each call.
 """
-import base64
 import contextlib
-import fcntl
 import glob
 import os
 import re
 import signal
 
-import running
 import serving
-from mending import SYNCS, bytes_of, do, made, write
+from mending import SYNCS, bytes_of, do, locked, made, write
 from report import Test, want, want_same
-from servers import PROFILE, Server, ended, new_folder, program, until, words_of
+from servers import PROFILE, Server, new_folder, program, until
 from wire import Ended
 
 # A journal that is compacted as soon as it may be, and bytes by which a change makes it longer.
@@ -109,10 +106,8 @@ def beginning(builds):
         for calls in range(MOST_CALLS):
             put(folder, held, places)
             write(faults, b"%d" % calls)
-            with open(f"{folder}/journal", "rb") as last:
-                # (as a server has it)
-                fcntl.flock(last, fcntl.LOCK_EX)
-                wrap = "env", f"LD_PRELOAD={library}", stops, f"AT={calls}"
+            wrap = "env", f"LD_PRELOAD={library}", stops, f"AT={calls}"
+            with locked(f"{folder}/journal"):
                 got = do(builds, folder, "beginning", wrap=wrap)
             want_same(do(builds, folder, "export"), whole, f"the tree after {calls} calls, {got}")
             if not got[0]:
@@ -120,7 +115,7 @@ def beginning(builds):
             want(got[0] in (-9, 4), f"{got}")
             want_same(do(builds, folder)[0], 0, f"the next start after {calls} calls")
             want_same(do(builds, folder, "export"), whole, f"the tree after {calls} calls")
-        want(re.fullmatch(r"\d+ bytes, before \d+\n", got[1]) and 5 < calls, f"{calls}, {got}")
+        want(re.fullmatch(r"\d+ bytes, before \d+\n", got[1]) and 4 < calls, f"{calls}, {got}")
         want_same(files_of(folder), ["journal", "journal.2", "secret"], "one part before the last")
 
 

@@ -1,11 +1,10 @@
 """A folder of an older version is refused, and says how it is upgraded. Then it is as it was."""
 import base64
-import fcntl
 import os
 
 import serving
 import sources
-from mending import bytes_of
+from mending import bytes_of, locked
 from report import Test, want, want_same
 from servers import PROFILE, Server, ended, new_folder, words_of
 from wire import NO_SESSION, greeted
@@ -42,8 +41,7 @@ def older(builds, held, servers=1):
         # (one part alone has nothing before it)
         want_same(found, (0, "", "") if task == "beginning" else (3, "", said), task)
     upgrade = lambda: ended([f"{sources.ROOT}/zk", "upgrade", folder])
-    with open(f"{folder}/journal", "rb") as file:
-        fcntl.flock(file, fcntl.LOCK_EX)
+    with locked(f"{folder}/journal"):
         want_same(upgrade(), (3, "", "zk: data: the folder is in use\n"), "a folder in use")
     status, out, said = upgrade()
     want((status, out.count("\n"), said) == (0, 1, ""), f"{status} {out} {said}")
