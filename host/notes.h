@@ -17,8 +17,9 @@ enum kind {
     SLOW_BATCH,
     /* A request was refused with SystemError. */
     LIMITED,
-    /* The journal was replaced by a shorter one. */
+    /* The parts of the journal before the last one were replaced by a shorter one, or weren't. */
     COMPACTED,
+    UNCOMPACTED,
     KINDS
 };
 
