@@ -8,13 +8,13 @@ pub returns-in-Unmade-clause-text : goal.returns-in-Unmade-clause-text
 returns-in-Unmade-clause-text g c =
     let found = found_of c.args.servers c.deref.result.now (g.D.Device.seen c.args.device.now) c.in_ok-look.field-0 _
     (c.deref.ensures.value ∙ c.in_ok-bytes.ensures.bytes) c.in-Unmade.is c.in_ok-look.ensures.ok in
-    ([], inr (inl found, refl), c.new.ensures.items, λ f. sym (head_end f c.args.servers))
+    ([], inr (inl found, refl), c.new.ensures.items, λ start. sym (head_end start c.args.servers))
 
 pub returns-in-Unopened-clause-text : goal.returns-in-Unopened-clause-text
 returns-in-Unopened-clause-text g c =
     let found = found_of c.args.servers c.deref.result.now (g.D.Device.seen c.args.device.now) c.in_ok-look.field-0 _
     (c.deref.ensures.value ∙ c.in_ok-bytes.ensures.bytes) c.in-Unopened.is c.in_ok-look.ensures.ok in
-    ([], inr (inr (_, found.0), refl), c.new-in-Unopened.ensures.items, λ f. sym (head_end f c.args.servers))
+    ([], inr (inr found.0, refl), c.new-in-Unopened.ensures.items, λ start. sym (head_end start c.args.servers))
 
 pub returns-clause-text : goal.returns-clause-text
 returns-clause-text g c =
@@ -23,7 +23,7 @@ returns-clause-text g c =
       found.0,
       inl (keeps c.args.servers found.0 (g.D.Device.seen c.args.device.now) _ found.1),
       found.2,
-      λ f. found.1.is_place.end ∙ same_end c.in-Cached.place.format f c.args.servers found.0,
+      λ start. found.1.is_place.end ∙ same_end c.in-Cached.place.start start c.args.servers found.0,
     )
 
 pub returns-in_err-bytes-clause-durable : goal.returns-in_err-bytes-clause-durable
