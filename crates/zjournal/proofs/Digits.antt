@@ -40,3 +40,22 @@ number_in_digits n small = simp number_of_digit (whole_is n small)
 
 pub same_digits : (m n : ℕ) → m < 4294967296 → n < 4294967296 → digits m ≡ digits n → m ≡ n
 same_digits m n first second is = sym (number_in_digits m first) ∙ ap number_in is ∙ number_in_digits n second
+
+-- what is read of eight digits is their number
+pub read_is : (text : List ℕ) (n a b c d e f g h : ℕ) → n < 4294967296 → text ≡ digits n
+    → ((m : ℕ) → m < 16 → get_or text 0 0 ≡ digit m → a ≡ m) → ((m : ℕ) → m < 16 → get_or text 1 0 ≡ digit m → b ≡ m)
+    → ((m : ℕ) → m < 16 → get_or text 2 0 ≡ digit m → c ≡ m) → ((m : ℕ) → m < 16 → get_or text 3 0 ≡ digit m → d ≡ m)
+    → ((m : ℕ) → m < 16 → get_or text 4 0 ≡ digit m → e ≡ m) → ((m : ℕ) → m < 16 → get_or text 5 0 ≡ digit m → f ≡ m)
+    → ((m : ℕ) → m < 16 → get_or text 6 0 ≡ digit m → g ≡ m) → ((m : ℕ) → m < 16 → get_or text 7 0 ≡ digit m → h ≡ m)
+    → whole a b c d e f g h ≡ n
+read_is text n a b c d e f g h small is at_a at_b at_c at_d at_e at_f at_g at_h =
+    rw (
+      at_a (n / 268435456 % 16) (omega arith) (ap (λ (l : List ℕ). get_or l 0 0) is),
+      at_b (n / 16777216 % 16) (omega arith) (ap (λ (l : List ℕ). get_or l 1 0) is),
+      at_c (n / 1048576 % 16) (omega arith) (ap (λ (l : List ℕ). get_or l 2 0) is),
+      at_d (n / 65536 % 16) (omega arith) (ap (λ (l : List ℕ). get_or l 3 0) is),
+      at_e (n / 4096 % 16) (omega arith) (ap (λ (l : List ℕ). get_or l 4 0) is),
+      at_f (n / 256 % 16) (omega arith) (ap (λ (l : List ℕ). get_or l 5 0) is),
+      at_g (n / 16 % 16) (omega arith) (ap (λ (l : List ℕ). get_or l 6 0) is),
+      at_h (n % 16) (omega arith) (ap (λ (l : List ℕ). get_or l 7 0) is),
+    ) (whole_is n small)

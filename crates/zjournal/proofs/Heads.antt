@@ -38,7 +38,7 @@ older_is found given last file begins old =
 
 pub other_version_is_such : (servers found given : ℕ) (last file : List ℕ) (e : OpenError) → Begins found given last file → found ≢ version
     → (0 < found → found < 3 → e ≡ Old) → ((0 < found → found < 3 → ⊥) → e ≡ Version found) → IsSuch servers file e
-other_version_is_such servers found given last file e begins not old other = by_cases found begins not old other
+other_version_is_such servers found given last file e at differs is_old is_other = by_cases found at differs is_old is_other
   where
     newer : (n : ℕ) → Begins n given last file → n ≢ version → (0 < n → n < 3 → ⊥) → e ≡ Version n → IsSuch servers file e
     newer n at differs none is = subst (IsSuch servers file) (sym is)
@@ -54,7 +54,8 @@ other_version_is_such servers found given last file e begins not old other = by_
     by_cases (suc zero) at differs is_old is_other = older 1 at (omega arith) (omega arith) (is_old (omega arith) (omega arith))
     by_cases (suc (suc zero)) at differs is_old is_other = older 2 at (omega arith) (omega arith) (is_old (omega arith) (omega arith))
     by_cases (suc (suc (suc n))) at differs is_old is_other =
-        let none : 0 < n + 3 → n + 3 < 3 → ⊥ = λ some below. omega (arith, below) in newer (n + 3) at differs none (is_other none)
+        let none : 0 < suc (suc (suc n)) → suc (suc (suc n)) < 3 → ⊥ = λ some below. omega (arith, below) in
+        newer (suc (suc (suc n))) at differs none (is_other none)
 
 -- the word is another one
 pub other_word : (given : ℕ) (last file : List ℕ) → Begins version given last file → (4 ≤ length last) × (take 4 last ≢ word) → HasOtherWord file

@@ -1,11 +1,12 @@
 -- What a crash leaves while a file is opened.
-use Rattle.std.proofs.Common.{◌≡◌, ◌<◌, inl, inr, ℕ, List, [], ◌∷◌, ◌++◌, take, drop, refl, sym, ◌∙◌, ap, subst}
+use Rattle.std.proofs.Common.{◌≡◌, ◌<◌, ◌⊎◌, inl, inr, ℕ, List, [], ◌∷◌, ◌++◌, take, drop, refl, sym, ◌∙◌, ap, subst}
 use Rattle.zjournal.specs.declared.place.Place.{Place}
 use Rattle.zjournal.specs.declared.reading.Found.{Found}
+use Rattle.zjournal.specs.declared.reading.Found.TheVariants.{Unmade, Unopened}
 use Rattle.zjournal.specs.Device.{Only, Elapses, LeavesOnly}
 use Rattle.zjournal.specs.Blocks.{at_rest}
 use Rattle.zjournal.specs.CommitBytes.{IsClosing, IsOpening}
-use Rattle.zjournal.specs.Journal.{head, holdings, IsUnopened, Keeps, Represents}
+use Rattle.zjournal.specs.Journal.{head, holdings, IsBeingMade, IsUnmade, IsUnopened, Keeps, Represents}
 use Rattle.zjournal.specs.Found.{KeepsTo, IsFound}
 use Rattle.zjournal.proofs.Moments.{started, goes_on, joined_runs, weaker}
 use Rattle.zjournal.proofs.Files.{keeps, closing_keeps, closed_rests, any_head_commit_byte}
@@ -17,6 +18,11 @@ pub found_of : (servers : ℕ) (bytes file : List ℕ) (found variant : Found) �
     → IsFound servers bytes found → IsFound servers file variant
 found_of servers bytes file found variant same is h = subst (λ (f : Found). IsFound servers file f) is
     (subst (λ (b : List ℕ). IsFound servers b found) same h)
+
+pub being_made_of : (servers : ℕ) (bytes file : List ℕ) (found : Found) → bytes ≡ file → (found ≡ Unmade) ⊎ (found ≡ Unopened)
+    → IsFound servers bytes found → IsBeingMade servers file
+being_made_of servers bytes file found same (inl is) h = inl (found_of servers bytes file found Unmade same is h)
+being_made_of servers bytes file found same (inr is) h = let unopened = found_of servers bytes file found Unopened same is h in inr unopened.0
 
 -- the head's commit_byte is opened
 module _ (servers : ℕ) (some : 0 < servers) (file mid : List ℕ) (same : mid ≡ file) (unopened : IsUnopened servers file) where
@@ -88,6 +94,10 @@ module _ {D : Type 0} (seen : D → List ℕ) (may_leave : D → List ℕ → Ty
       (weaker moment left_since mid new Q (Represents servers batches) second
       (λ c q. subst (λ (b : List (List ℕ)). Represents servers b c) (files_have_one_reading servers (seen old) found batches finds stands)
       (implies c q)))
+
+  pub unmade_leaves : IsUnmade servers (seen old) → (new : D) → LeavesOnly moment left_since mid new (Represents servers [])
+      → LeavesOnly moment left_since old new (Represents servers batches)
+  unmade_leaves unmade new second = then_leaves [] (inr (inl unmade, refl)) new (Represents servers []) second (λ c made. made)
 
   pub unopened_leaves : 0 < servers → IsUnopened servers (seen old) → (new : D)
       → LeavesOnly moment left_since mid new (IsOpening (take 0 (seen mid)) (drop 1 (seen mid)))

@@ -6,7 +6,7 @@ use Rattle.zjournal.proofs.Adler.{one_is_sum}
 use Rattle.zjournal.proofs.Readings.{kept_is_made}
 use Rattle.zjournal.specs.declared.reading.Found.TheVariants.{Unmade, Unopened, Cached}
 use Rattle.zjournal.proofs.Files.{keeps, first_place, made_texts}
-use Rattle.zjournal.proofs.Opens.{found_start, found_of, opened_head, closed_stands, unopened_leaves, kept_leaves}
+use Rattle.zjournal.proofs.Opens.{found_start, found_of, opened_head, closed_stands, unmade_leaves, unopened_leaves, kept_leaves}
 use Rattle.std.proofs.lemmas.Result.{err_from_is_err_and}
 use Rattle.zjournal.proofs.opening.open_file.Goals as goal
 
@@ -46,6 +46,24 @@ returns-in-Unopened-clause-read g c =
         durable = c.in_ok-set_commit_byte-in-Unopened.ensures.durable;
       },
     )
+
+pub returns-in_err-make-in-Unmade-clause-any_moment : goal.returns-in_err-make-in-Unmade-clause-any_moment
+returns-in_err-make-in-Unmade-clause-any_moment g c batches stands =
+    let found = found_of c.args.servers c.deref.result.now (g.D.Device.seen c.args.device.now) c.in_ok-look.field-0 Unmade
+    (c.deref.ensures.value ∙ c.in_ok-bytes.ensures.bytes) c.in-Unmade.is c.in_ok-look.ensures.ok in
+    unmade_leaves g.D.Device.seen g.D.Device.may_leave g.D.Device.moment g.D.Device.left_since c.args.device.now
+    c.read.new.self c.requires.durable (g.met.D.Device.only_now c.args.device.now)
+    c.read.ensures.crash c.read.ensures.time c.read.ensures.seen c.args.servers batches stands
+    found c.make.new.device c.make.ensures.any_moment
+
+pub returns-in-Unmade-clause-any_moment : goal.returns-in-Unmade-clause-any_moment
+returns-in-Unmade-clause-any_moment g c batches stands =
+    let found = found_of c.args.servers c.deref.result.now (g.D.Device.seen c.args.device.now) c.in_ok-look.field-0 Unmade
+    (c.deref.ensures.value ∙ c.in_ok-bytes.ensures.bytes) c.in-Unmade.is c.in_ok-look.ensures.ok in
+    unmade_leaves g.D.Device.seen g.D.Device.may_leave g.D.Device.moment g.D.Device.left_since c.args.device.now
+    c.read.new.self c.requires.durable (g.met.D.Device.only_now c.args.device.now)
+    c.read.ensures.crash c.read.ensures.time c.read.ensures.seen c.args.servers batches stands
+    found c.make.new.device c.make.ensures.any_moment
 
 pub returns-in_err-set_commit_byte-in-Unopened-clause-any_moment : goal.returns-in_err-set_commit_byte-in-Unopened-clause-any_moment
 returns-in_err-set_commit_byte-in-Unopened-clause-any_moment g c batches stands =
