@@ -10,7 +10,7 @@ use Rattle.zjournal.specs.CommitBytes.{IsClosing, IsAdding}
 use Rattle.zjournal.specs.Journal.{version, word, mark, head, holdings, IsPlace, Keeps, IsUnmade, Represents, IsWithOrWithout}
 use Rattle.zjournal.specs.Found.{KeepsTo}
 use Rattle.zjournal.proofs.Blocks.{blocks-push, first_block, length-blocks-push, texts-push, front_of_end}
-use Rattle.zjournal.proofs.Adler.{one_is_sum}
+use Rattle.zjournal.proofs.Adler.{all_is_sum, one_is_sum}
 use Rattle.zjournal.proofs.Sums.{digits_text, sum-push, same_size, stamped-push}
 
 -- a head without a byte 0
@@ -41,6 +41,10 @@ head_end start servers = refl
 -- the position after the head
 pub first_place : (servers : ℕ) (place : Place) → place.end ≡ 34 → place.sum ≡ place.start → IsSum place.start → IsPlace servers [] place
 first_place servers place end sum is_sum = record { end = end ∙ sym (head_end place.start servers); sum = sum; is_sum = is_sum }
+
+-- the sum at a position is one
+pub place_is_sum : (servers : ℕ) (batches : List (List ℕ)) (place : Place) → IsPlace servers batches place → IsSum place.sum
+place_is_sum servers batches place is = subst IsSum (sym is.sum) (all_is_sum place.start batches is.is_sum)
 
 -- batches end at the same index after each sum
 pub same_end : (a b servers : ℕ) (batches : List (List ℕ)) → length (blocks (holdings a servers batches)) ≡ length (blocks (holdings b servers batches))

@@ -1,5 +1,5 @@
 -- A file represents one list of batches, and then it has no fault.
-use Rattle.std.proofs.Common.{◌≡◌, inl, inr, ℕ, List, ◌∷◌, ◌++◌, map, get_or, take, drop, refl, sym, ◌∙◌, ap, subst, arith}
+use Rattle.std.proofs.Common.{◌≡◌, inl, inr, ℕ, List, ◌∷◌, ◌++◌, map, get_or, take, drop, sym, ◌∙◌, ap, subst, arith}
 use Rattle.zjournal.specs.declared.fault.OpenError.{OpenError}
 use Rattle.zjournal.specs.declared.fault.OpenError.TheVariants.{Memory, Failed, NotJournal, Version, Old, Other, Servers, Damaged}
 use Rattle.zjournal.specs.Blocks.{IsText, blocks}

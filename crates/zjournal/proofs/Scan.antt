@@ -3,7 +3,7 @@ use Rattle.std.proofs.Common.{◌≡◌, ◌≢◌, ℕ, ◌+◌, ◌-◌, ◌<�
 use Rattle.std.proofs.Common.{zero, suc, refl, sym, ◌∙◌, ap, subst, arith, append_assoc, length-append}
 use Rattle.std.proofs.lemmas.List.{append-nil, take_at, drop_all, drop_more}
 use Rattle.zjournal.specs.Blocks.{IsText, AreTexts, blocks, IsEnd}
-use Rattle.zjournal.specs.Checksum.{adler_after, sum_after_all, stamped, stamped_all}
+use Rattle.zjournal.specs.Checksum.{adler_after, stamped, stamped_all}
 use Rattle.zjournal.specs.declared.place.Place.{Place}
 use Rattle.zjournal.specs.Scan.{EndsAt, IsBatch, IsNoBatch, AreBatches, joined}
 use Rattle.zjournal.proofs.Blocks.{blocks-push, length-blocks-push, texts-push, first_zero, no_zero}
