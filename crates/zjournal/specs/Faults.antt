@@ -70,7 +70,7 @@ abbrev pub IsOfContent : OpenError → Type 0
 IsOfContent opening.Memory = ⊥
 IsOfContent opening.Failed = ⊥
 IsOfContent opening.NotJournal = Unit {0}
-IsOfContent (opening.Version version) = Unit {0}
+IsOfContent (opening.Version other) = Unit {0}
 IsOfContent opening.Old = Unit {0}
 IsOfContent opening.Other = Unit {0}
 IsOfContent (opening.Servers given) = Unit {0}

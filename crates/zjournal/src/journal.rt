@@ -8,6 +8,7 @@ ghost use Rattle.std.specs.Prelude.{◌≡◌, ◌<◌, ◌≤◌, ◌^◌, ◌+
 ghost use Rattle.std.specs.Prelude.{OnOk, IfErr, IsErrOf};
 ghost use Rattle.zjournal.specs.Device.{LeavesOnly};
 ghost use Rattle.zjournal.specs.Blocks.{IsText};
+ghost use Rattle.zjournal.specs.Checksum.{IsSum};
 ghost use Rattle.zjournal.specs.Journal.{IsAtRest, IsOpen, IsSound, IsWithOrWithout};
 ghost use Rattle.zjournal.specs.Journal.{Keeps, device_of, size_of, start_of, sum_of};
 ghost use Rattle.zjournal.specs.Puts.{IsLeftBy};
@@ -58,7 +59,9 @@ impl<D: Device> Journal<D> {
 
     /// Returns the sum from which the checksum of the next batch continues.
     pub fn sum(&self) -> u32
-        ensures { result ≡ sum_of self.now }
+        ensures sum { result ≡ sum_of self.now }
+        ensures is_sum { (servers : ℕ) (batches : List (List ℕ))
+            → IsAtRest D.seen D.may_leave servers batches self.now → IsSum result }
     {
         self.place.sum
     }

@@ -11,7 +11,7 @@
 //! of the two, whole. If the new file can't be written, the journal continues with the old one.
 //!
 //! ```text
-//! journal.begin_renewal()?;
+//! journal.begin_renewal(start)?;
 //! journal.put_renewed(batch)?;                                // any number of them
 //! journal.end_renewal()?;                                     // now the new file is durable
 //! ```

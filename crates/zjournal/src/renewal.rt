@@ -108,8 +108,8 @@ impl<D: Device> Journal<D> {
 
     /// Ends the new file, and replaces the old one with it. At `Ok` it is durable with its name:
     /// from then on every crash leaves its batches, and no others. A crash meanwhile leaves the old
-    /// file or the new one, whole. After a fault the journal takes nothing
-    /// more, and the file is one of the two.
+    /// file or the new one, whole. After a fault the journal takes nothing more, and the file is one
+    /// of the two.
     pub fn end_renewal(&mut self) -> Result<(), PutError>
         requires { IsInRenewal D.seen D.may_leave D.beside self.old }
         ensures renewed { (servers : ℕ) (batches next : List (List ℕ)) → IsOpen self.old
