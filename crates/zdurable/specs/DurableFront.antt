@@ -1,5 +1,6 @@
 -- A front end whose changes are made durable in a journal.
-use Rattle.std.specs.Prelude.{◌≡◌, ◌==◌, ◌&&◌, ◌/◌, ◌-◌, nat_le, not, ℕ, Bool, true, false, List, [], ◌∷◌, ◌++◌, length, Option, None, if◌then◌else◌}
+use Rattle.std.specs.Prelude.{◌≡◌, ◌==◌, ◌&&◌, ◌/◌, ◌-◌, nat_le, ℕ, Bool, true, false, List, [], ◌∷◌, ◌++◌, length, Option, None, if◌then◌else◌}
+use Rattle.std.specs.FinMap as finite
 use Rattle.ztree.specs.Tree.{Tree}
 use Rattle.ztree.specs.Counts.{data_count}
 use Rattle.zjournal.specs.Journal.{IsAtRest, Keeps, device_of, size_of}
@@ -61,7 +62,7 @@ growth_of kept = size_of kept.journal - measured_from kept
 abbrev pub is_long : {D : Type 0} → ℕ → DurableFront D → Bool
 is_long least kept =
     nat_le least (growth_of kept) && nat_le (data_count (front_in kept).tree.nodes) (growth_of kept / 4)
-    && nat_le (finite.len (front_in kept).tree.nodes) (growth_of kept / 512) && not kept.front.is_broken
+    && nat_le (finite.len (front_in kept).tree.nodes) (growth_of kept / 512)
 
 -- the file holds batches whose text is this tree's
 abbrev pub KeepsTree : ℕ → Tree → List ℕ → Type 0
