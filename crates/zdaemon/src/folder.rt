@@ -66,9 +66,10 @@ fn keep<D: Device>(kept: &mut DurableFront<D>, long: usize) -> Result<(), Durabl
     ensures good { OnOk result (IsGood D.seen D.may_leave kept.new) }
 {
     kept.commit()?;
-    if kept.is_long(long) {
-        kept.split()?;
+    if !kept.is_long(long)? {
+        return Ok(());
     }
+    let _begun = kept.split()?; // if not, the part that there is grows on
     Ok(())
 }
 
