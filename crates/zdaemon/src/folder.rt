@@ -69,7 +69,7 @@ fn keep<D: Device>(kept: &mut DurableFront<D>, long: usize) -> Result<(), Durabl
     if !kept.is_long(long)? {
         return Ok(());
     }
-    let _begun = kept.split()?; // if not, the part that there is grows on
+    kept.split()?; // if none is begun, the last one grows on
     Ok(())
 }
 

@@ -7,12 +7,10 @@ use Rattle.std.specs.declared.alloc.Global.{Global}
 use Rattle.ztree.specs.Tree.{Tree}
 use Rattle.zjournal.specs.Device.{LeavesOnly}
 use Rattle.zjournal.specs.Blocks.{IsText, AreTexts, blocks}
-use Rattle.zjournal.specs.Checksum.{IsSum}
-use Rattle.zjournal.specs.Journal.{holdings, IsAtRest, Keeps, IsOpen, device_of, start_of, sum_of}
+use Rattle.zjournal.specs.Journal.{holdings, IsAtRest, Keeps, IsOpen, device_of, start_of}
 use Rattle.zjournal.specs.Renewal.{IsRenewing, IsInRenewal, IsOldOrNew, renewed_size_of, renewed_start_of}
 use Rattle.zjournal.specs.Scan.{joined}
 use Rattle.zjournal.specs.declared.journal.Journal.{Journal}
-use Rattle.zjournal.proofs.Adler.{all_is_sum}
 use Rattle.zjournal.proofs.Moments.{joined_runs, started, weaker}
 use Rattle.zsnapshots.specs.folder.Compaction.{CompactionView, IsChunk, IsAllWritten, text_left}
 use Rattle.zsnapshots.specs.folder.Texts.{row_records, snapshot_text, IsKeepable, IsTextOf}
@@ -90,12 +88,6 @@ module _ {D : Type 0} (moment : D → ℕ) (left_since : D → ℕ → List ℕ 
       (λ file keeps. ⊎_elim (λ was. inl was) (λ is. inr (done, is, text)) keeps)
 
 -- ---- the old file
-
--- the next checksum continues from a sum
-pub continues_from_sum : {D : Type 0} (seen : D → List ℕ) (may_leave : D → List ℕ → Type 0) (servers : ℕ) (batches : List (List ℕ))
-    (journal : Journal D) → IsAtRest seen may_leave servers batches journal → IsSum (sum_of journal)
-continues_from_sum seen may_leave servers batches journal rest =
-    subst IsSum (sym rest.place.sum) (all_is_sum (start_of journal) batches rest.place.is_sum)
 
 module _ {D : Type 0} (seen : D → List ℕ) (may_leave : D → List ℕ → Type 0) (moment : D → ℕ) (left_since : D → ℕ → List ℕ
     → Type 0) (old : Journal D) (servers : ℕ) (batches : List (List ℕ)) (rest : IsAtRest seen may_leave servers batches old)

@@ -2,18 +2,16 @@ use Rattle.std.proofs.Common.{◌≡◌, ℕ, List, [], ◌∷◌, ◌++◌, ◌
 use Rattle.std.proofs.lemmas.List.{map_more, take_all}
 use Rattle.std.specs.declared.vec.Vec.{Vec}
 use Rattle.std.specs.declared.alloc.Global.{Global}
-use Rattle.zjournal.specs.Checksum.{IsSum, sum_after_all}
-use Rattle.zjournal.specs.Journal.{device_of, sum_of}
+use Rattle.zjournal.specs.Checksum.{sum_after_all}
+use Rattle.zjournal.specs.Journal.{device_of}
 use Rattle.zjournal.specs.Scan.{joined}
 use Rattle.zsnapshots.specs.folder.Texts.{IsTextOf}
-use Rattle.zdurable.proofs.Renewing.{IsWriting, begun, continues_from_sum, ends_here, goes_on, keeps_more, leaves_old, replaces, stays_old, texts_in}
+use Rattle.zdurable.proofs.Renewing.{IsWriting, begun, ends_here, goes_on, keeps_more, leaves_old, replaces, stays_old, texts_in}
 use Rattle.zdurable.proofs.beginning.compact_beginning.Goals as goal
 
 pub start_before-requires : goal.start_before-requires
 start_before-requires g c =
-    let was = c.requires.sound c.requires.open in
-    subst IsSum (sym c.sum.ensures)
-    (continues_from_sum g.D.Device.seen g.D.Device.may_leave was.0 was.1 c.args.journal.now was.2)
+    let was = c.requires.sound c.requires.open in c.sum.ensures.is_sum was.0 was.1 was.2
 
 pub returns-in_err-chunks-clause-any_moment : goal.returns-in_err-chunks-clause-any_moment
 returns-in_err-chunks-clause-any_moment g c servers batches rest =
@@ -101,4 +99,4 @@ returns-clause-sum g c =
     ∙ ap (λ (start : ℕ). sum_after_all start done) (c.in_ok-end_renewal.ensures.start ∙ c.loop-text.invariant.from)
     ∙ ap (λ (l : List (Vec ℕ Global)). sum_after_all c.start_before.result (texts_in l))
     (take_all texts c.loop-text.text-index c.loop-text-test.false)
-    ∙ c.start_before.ensures.sum ∙ c.sum.ensures
+    ∙ c.start_before.ensures.sum ∙ c.sum.ensures.sum
