@@ -45,7 +45,9 @@ pub(crate) fn compact<R: Files<File = File> + Copy, K: Sink, F: Sink>(
         return Err(HostedFault::Serve(unkept(fault)));
     }
     stored.device().forget_failure();
-    report_lengths(alloc, stored.size(), before, sink)
+    let after = stored.size();
+    report_lengths(alloc, after, before, sink)?;
+    Ok(())
 }
 
 /// Compacts a device that has all parts of a journal but the last one, and prints how many bytes it
@@ -68,7 +70,9 @@ pub(crate) fn compact_beginning<R: Files<File = File> + Copy, K: Sink>(
     if let Err(fault) = stored.compact_beginning() {
         return Err(HostedFault::Serve(unkept(fault)));
     }
-    report_lengths(alloc, stored.size(), before, sink)
+    let len = stored.size();
+    report_lengths(alloc, len, before, sink)?;
+    Ok(())
 }
 
 // Prints the lengths of a journal after its compaction and before.

@@ -66,9 +66,10 @@ fn keep<D: Device>(kept: &mut DurableFront<D>, long: usize) -> Result<(), Durabl
     ensures good { OnOk result (IsGood D.seen D.may_leave kept.new) }
 {
     kept.commit()?;
-    if kept.is_long(long) {
-        kept.split()?;
+    if !kept.is_long(long)? {
+        return Ok(());
     }
+    kept.split()?; // if none is begun, the last one grows on
     Ok(())
 }
 

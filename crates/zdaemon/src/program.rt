@@ -92,7 +92,8 @@ fn run<R: Files<File = File> + Copy, S: Source, K: Sink, F: Sink>(
         return Err(HostedFault::Words(WordsFault::BadWords));
     };
     if let Some((task, last)) = task_of(words) {
-        return do_task(alloc, files, folder, task, last, sink, faults);
+        do_task(alloc, files, folder, task, last, sink, faults)?;
+        return Ok(());
     }
     let asked = hosted_settings(words)?;
     let secret = read_secret(source)?;
@@ -157,20 +158,26 @@ fn do_task<R: Files<File = File> + Copy, K: Sink, F: Sink>(
         (sink_run K.took K.failed sink.old sink.new)) }
 {
     match task {
-        Task::Compact => compact(alloc, found(alloc, files, folder)?, last, sink, faults),
-        Task::Beginning => match FileDevice::open_beginning(alloc, files, folder, SyncMode::Batch)? {
-            Some(device) => compact_beginning(alloc, device, last, sink),
-            None => Ok(()),
-        },
+        Task::Compact => {
+            let device = found(alloc, files, folder)?;
+            compact(alloc, device, last, sink, faults)?;
+        }
+        Task::Beginning => {
+            match FileDevice::open_beginning(alloc, files, folder, SyncMode::Batch)? {
+                Some(device) => compact_beginning(alloc, device, last, sink)?,
+                None => {}
+            }
+        }
         Task::Export => {
             let mut device = found(alloc, files, folder)?;
-            export(alloc, &mut device, last, sink, faults)
+            export(alloc, &mut device, last, sink, faults)?;
         }
         Task::Stat => {
             let mut device = found(alloc, files, folder)?;
-            stat(alloc, &mut device, last, sink, faults)
+            stat(alloc, &mut device, last, sink, faults)?;
         }
     }
+    Ok(())
 }
 
 // Takes all messages (`serve`), behind a guard if there are logins.

@@ -55,7 +55,8 @@ pub record MayReplace (servers : ℕ) (t : Tree) (old new : List ℕ) : Type 0 w
   pub next : List (List ℕ)
   pub old_start : ℕ
   pub new_start : ℕ
-  pub is_sum : IsSum new_start
+  pub old_is_sum : IsSum old_start
+  pub new_is_sum : IsSum new_start
   pub old_rests : old ≡ at_rest (holdings old_start servers before)
   pub new_rests : new ≡ at_rest (holdings new_start servers next)
   pub new_texts : AreTexts (holdings new_start servers next)

@@ -1,5 +1,6 @@
 -- A front end whose changes are made durable in a journal.
-use Rattle.std.specs.Prelude.{◌≡◌, ◌==◌, ◌&&◌, ◌/◌, ◌-◌, nat_le, not, ℕ, Bool, true, false, List, [], ◌∷◌, ◌++◌, length, Option, None, if◌then◌else◌}
+use Rattle.std.specs.Prelude.{◌≡◌, ◌==◌, ◌&&◌, ◌/◌, ◌-◌, nat_le, ℕ, Bool, true, false, List, [], ◌∷◌, ◌++◌, length, Option, None, if◌then◌else◌}
+use Rattle.std.specs.FinMap as finite
 use Rattle.ztree.specs.Tree.{Tree}
 use Rattle.ztree.specs.Counts.{data_count}
 use Rattle.zjournal.specs.Journal.{IsAtRest, Keeps, device_of, size_of}
@@ -58,10 +59,12 @@ growth_of kept = size_of kept.journal - measured_from kept
 
 -- a new part is to be begun: the journal has grown by this many bytes, by four times those of the
 -- tree's data, and by 512 for each node
+abbrev pub has_grown : ℕ → ℕ → ℕ → ℕ → Bool
+has_grown least bytes nodes growth = nat_le least growth && nat_le bytes (growth / 4) && nat_le nodes (growth / 512)
+
 abbrev pub is_long : {D : Type 0} → ℕ → DurableFront D → Bool
 is_long least kept =
-    nat_le least (growth_of kept) && nat_le (data_count (front_in kept).tree.nodes) (growth_of kept / 4)
-    && nat_le (finite.len (front_in kept).tree.nodes) (growth_of kept / 512) && not kept.front.is_broken
+    let nodes = (front_in kept).tree.nodes in has_grown least (data_count nodes) (finite.len nodes) (growth_of kept)
 
 -- the file holds batches whose text is this tree's
 abbrev pub KeepsTree : ℕ → Tree → List ℕ → Type 0

@@ -16,7 +16,7 @@ pub record IsLook (servers : ℕ) (file : List ℕ) (t : Tree) (snapshot : ℕ) 
   pub text : IsTextOf t (joined batches)
   pub begins : snapshot ≡ length text.front
 
--- the last block that counts ends at this index, which is the same in both formats
+-- the last block that counts ends at this index, which is the same after each sum of a head
 abbrev pub EndsThere : ℕ → List ℕ → ℕ → Type 0
 EndsThere servers file end =
     (batches : List (List ℕ)) × Represents servers batches file × ((start : ℕ) → end ≡ length (blocks (holdings start servers batches)))

@@ -12,7 +12,7 @@ ghost use Rattle.zjournal.specs.Journal.{IsAtRest, device_of, sum_of};
 ghost use Rattle.zjournal.specs.Journal as file;
 ghost use Rattle.zjournal.specs.Scan.{joined};
 ghost use Rattle.zdurable.specs.Compaction.{IsOldOrTree, RestsAfter};
-ghost use Rattle.zsnapshots.specs.folder.Texts.{snapshot_text};
+ghost use Rattle.zsnapshots.specs.folder.Texts.{snapshot_text, IsTextOf};
 
 use crate::fault::DurableFault;
 use std::alloc::Global;
@@ -28,8 +28,9 @@ pub(crate) fn compact_beginning<D: Device>(
     journal: &mut Journal<D>,
     tree: &LocalTree,
 ) -> Result<(), DurableFault>
-    requires { file.IsSound D.seen D.may_leave journal.old }
-    ensures kept { (servers : ℕ) (batches : List (List ℕ)) → file.IsOpen journal.old
+    requires sound { file.IsSound D.seen D.may_leave journal.old }
+    requires open { file.IsOpen journal.old }
+    ensures kept { (servers : ℕ) (batches : List (List ℕ))
         → IsAtRest D.seen D.may_leave servers batches journal.old
         → OnOk result (RestsAfter D.seen D.may_leave servers tree.now.tree journal.new) }
     ensures sum { OnOk result (sum_of journal.new ≡ sum_of journal.old) }
@@ -37,12 +38,14 @@ pub(crate) fn compact_beginning<D: Device>(
         → IsAtRest D.seen D.may_leave servers batches journal.old
         → LeavesOnly D.moment D.left_since (device_of journal.old) (device_of journal.new)
         (IsOldOrTree servers batches tree.now.tree) }
-    ensures open { OnOk result (file.IsOpen journal.old × file.IsOpen journal.new) }
+    ensures open { OnOk result (file.IsOpen journal.new) }
 {
     let chunks = chunks_of(alloc, tree)?;
-    journal.begin_renewal(start_before(journal.sum(), &chunks))?;
-    for chunk in chunks.iter() {
-        journal.put_renewed(chunk)?;
+    let texts = chunks.as_slice();
+    let start = start_before(journal.sum(), texts);
+    journal.begin_renewal(start)?;
+    for text in texts {
+        journal.put_renewed(text)?;
     }
     journal.end_renewal()?;
     Ok(())
@@ -52,6 +55,8 @@ pub(crate) fn compact_beginning<D: Device>(
 fn chunks_of(alloc: Global, tree: &LocalTree) -> Result<Vec<Vec<u8>>, Memory>
     ensures text { IfOk result (λ chunks.
         joined (map (λ c. c.items) chunks.items) ≡ snapshot_text tree.now.tree) }
+    ensures keeps { IfOk result (λ chunks.
+        IsTextOf tree.now.tree (joined (map (λ c. c.items) chunks.items))) }
     ensures no_zero { IfOk result (λ chunks. AreTexts (map (λ c. c.items) chunks.items)) }
 {
     let mut text = Compaction::new(alloc, tree)?;

@@ -10,42 +10,40 @@
 //! service continues with the one that it has. A trial at each length would cost too much: it is
 //! tried again once the journal has grown by as much as half of what it had.
 
-ghost use Rattle.std.specs.Prelude.{◌≡◌, ◌<◌, ◌≤◌, ◌^◌, ◌++◌, [], ◌∷◌, List, ℕ};
-ghost use Rattle.std.specs.Prelude.{IfOk, OnOk, OnErr, IsErrOf, map, true, false};
+ghost use Rattle.std.specs.Prelude.{◌≡◌, ◌<◌, ◌≤◌, List, ℕ};
+ghost use Rattle.std.specs.Prelude.{IfOk, OnOk, OnErr, IsErrOf, false};
 ghost use Rattle.ztree.specs.Tree.{Tree};
-ghost use Rattle.zjournal.specs.Checksum.{IsSum};
 ghost use Rattle.zjournal.specs.Device.{LeavesOnly};
-ghost use Rattle.zjournal.specs.Journal.{IsAtRest, Keeps, device_of, size_of, start_of};
+ghost use Rattle.zjournal.specs.Journal.{IsAtRest, Keeps, device_of, size_of};
 ghost use Rattle.zjournal.specs.Journal as file;
-ghost use Rattle.zjournal.specs.Scan.{joined};
 ghost use Rattle.zdurable.specs.DurableFront.{disk_of, front_in, made_in, IsOpen, IsServing, IsSound};
 ghost use Rattle.zdurable.specs.DurableFront.{growth_of, is_long, measured_from};
 ghost use Rattle.zdurable.specs.Compaction.{IsOldOrTree, IsTooLong, KeepsEither, RestsAfter};
 ghost use Rattle.zdurable.specs.Compaction.{ServesAfter, growth_after};
 ghost use Rattle.zfront.specs.Restoring.{all_taken};
 ghost use Rattle.zsnapshots.specs.folder.States.{after};
-ghost use Rattle.zsnapshots.specs.folder.Texts.{snapshot_text};
 
 use crate::DurableFront;
 use crate::fault::DurableFault;
 use std::alloc::Global;
+use zalloc::Memory;
 use zjournal::{Device, Journal, PutError};
 use zsnapshots::folder::Compaction;
 use ztree_service::{LocalTree, TreeService};
 
 impl<D: Device> DurableFront<D> {
     /// Returns whether a new part is to be begun: the journal has grown by at least `least` bytes, by
-    /// four times the data of the tree, and by 512 bytes for each node.
-    pub fn is_long(&self, least: usize) -> bool
-        ensures { result ≡ is_long least self.now }
+    /// four times the data of the tree, and by 512 bytes for each node. Returns `Memory` if the tree
+    /// ran out of memory before.
+    pub fn is_long(&self, least: usize) -> Result<bool, Memory>
+        ensures { IfOk result (λ long. long ≡ is_long least self.now) }
     {
         let growth = self.growth();
-        match self.front.service().counts() {
-            Ok(counts) => {
-                growth >= least && (growth / 4) as u64 >= counts.bytes && growth / 512 >= counts.nodes
-            }
-            Err(_) => false,
-        }
+        let counts = self.front.service().counts()?;
+        let is_long = growth >= least
+            && (growth / 4) as u64 >= counts.bytes
+            && growth / 512 >= counts.nodes;
+        Ok(is_long)
     }
 
     // The bytes by which the journal has grown.
@@ -93,9 +91,7 @@ impl<D: Device> DurableFront<D> {
         }
         self.is_open = false;
         let begun = begin_part(&mut self.journal)?;
-        let growth = self.growth();
-        let left = if begun { 0 } else { growth / 2 };
-        self.measured = self.journal.size() - left;
+        self.measured = self.journal.size() - growth_after(begun, self.growth());
         self.is_open = true;
         Ok(begun)
     }
@@ -137,6 +133,14 @@ impl<D: Device> DurableFront<D> {
         self.is_open = true;
         Ok(())
     }
+}
+
+// Returns the growth that is left, once a new part was to be begun.
+fn growth_after(begun: bool, growth: usize) -> usize
+    ensures left { result ≡ growth_after begun growth }
+    ensures less { result ≤ growth }
+{
+    if begun { 0 } else { growth / 2 }
 }
 
 // Begins a new part of a journal's file. Returns false if the disk failed: then the journal is as it

@@ -101,7 +101,8 @@ impl<D: Device> Stored<D> {
             → LeavesOnly D.moment D.left_since (file_of self.old) (file_of self.new)
             (KeepsTree servers (tree_of self.old)) }
     {
-        compact(self.alloc, &mut self.journal, &self.tree)
+        compact(self.alloc, &mut self.journal, &self.tree)?;
+        Ok(())
     }
 
     /// Replaces the file, which is all parts of a journal but the last one, with one that holds the
@@ -123,6 +124,7 @@ impl<D: Device> Stored<D> {
             → LeavesOnly D.moment D.left_since (file_of self.old) (file_of self.new)
             (KeepsTree servers (tree_of self.old)) }
     {
-        compact_beginning(self.alloc, &mut self.journal, &self.tree)
+        compact_beginning(self.alloc, &mut self.journal, &self.tree)?;
+        Ok(())
     }
 }
