@@ -35,6 +35,7 @@ pub(crate) fn compact<R: Files<File = File> + Copy, K: Sink, F: Sink>(
     ensures compacted { OnOk result (IsCompactionReported (seen_of {R = R}) (MayLeaveOf {R = R})
         servers (seen_of device) (sink_run K.took K.failed sink.old sink.new)) }
 {
+    device.remove_unfinished();
     let mut stored = match Stored::open(alloc, device, servers) {
         Ok(stored) => stored,
         Err((fault, _)) => return Err(unread(fault)),

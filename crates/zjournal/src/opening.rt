@@ -7,7 +7,8 @@
 //! The sum in a file's head doesn't change. In a new file, and in one that is being made, it is 1.
 //!
 //! What follows the last block that counts is one clear commit byte, or what a crash or a disk
-//! left. Where that is more than one byte it is a caller's to report it.
+//! left. Where that is more than one byte it is a caller's to report it. A file that ends as it
+//! should isn't written: it may be one that another process reads.
 
 ghost use Rattle.std.specs.Prelude.{◌≡◌, ◌<◌, ◌≤◌, ◌++◌, [], ◌∷◌, List, ℕ, length};
 ghost use Rattle.std.specs.Prelude.{IfOk, IfErr, OnOk, IsErrOf};
@@ -20,7 +21,7 @@ ghost use Rattle.zjournal.specs.declared.fault.OpenError.TheVariants as open_fau
 ghost use Rattle.zjournal.specs.Faults.{IsSuch, IsOfContent};
 ghost use Rattle.zjournal.specs.Opened.{IsRead};
 
-use crate::commit_bytes::{add_block, close, set_commit_byte};
+use crate::commit_bytes::{add_block, close, close_if_open, set_commit_byte};
 use crate::head::head_block;
 use crate::place::{HEAD_END, Place};
 use crate::reading::{Found, look};
@@ -78,7 +79,7 @@ pub fn open_file<D: Device>(
             Ok((Vec::new(alloc), Place::first(1)))
         }
         Found::Cached(text, place) => {
-            close(device, place.end)?;
+            close_if_open(device, &bytes, place.end)?;
             Ok((text, place))
         }
     }

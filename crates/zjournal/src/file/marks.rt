@@ -34,9 +34,12 @@ fn try_to_save<R: Files<File = File>>(
     Ok(place.folder.sync_all()?)
 }
 
-/// Makes an empty file `journal.failed`, if that can be done.
+/// Makes an empty file `journal.failed`, if that can be done. A file that is to replace the parts
+/// before the last one may fail: those stay as they are, so there is no mark.
 pub(crate) fn mark_failed<R: Files<File = File>>(files: &R, place: &Place) {
-    let _ = open_new(files, &place.failed_path);
+    if !place.is_beginning {
+        let _ = open_new(files, &place.failed_path);
+    }
 }
 
 /// Returns whether a file `journal.failed` exists.

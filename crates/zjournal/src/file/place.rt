@@ -69,9 +69,12 @@ impl Place {
         format!(in self.alloc; "{}{part}", self.stem)
     }
 
-    /// The offset in the last part's file of the content's byte at this index, unless it is in an
-    /// earlier part.
+    /// The offset in the last part's file of the content's byte at this index, if it may be written:
+    /// it is in no earlier part, and the folder's last part is here.
     pub(crate) fn offset(&self, at: usize) -> Option<usize> {
+        if self.is_beginning {
+            return None;
+        }
         match at.checked_sub(self.start) {
             Some(at) => at.checked_add(self.skip),
             None => None,

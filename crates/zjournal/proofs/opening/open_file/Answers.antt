@@ -83,15 +83,15 @@ returns-in-Unopened-clause-any_moment g c batches stands =
     c.read.ensures.crash c.read.ensures.time c.read.ensures.seen c.args.servers batches stands
     c.requires.some found.0 c.set_commit_byte.new.device c.set_commit_byte.ensures.any_moment
 
-pub returns-in_err-close-in-Cached-clause-any_moment : goal.returns-in_err-close-in-Cached-clause-any_moment
-returns-in_err-close-in-Cached-clause-any_moment g c batches stands =
+pub returns-in_err-close_if_open-in-Cached-clause-any_moment : goal.returns-in_err-close_if_open-in-Cached-clause-any_moment
+returns-in_err-close_if_open-in-Cached-clause-any_moment g c batches stands =
     let found = found_of c.args.servers c.deref.result.now (g.D.Device.seen c.args.device.now) c.in_ok-look.field-0
     (Cached c.in-Cached.text c.in-Cached.place)
     (c.deref.ensures.value ∙ c.in_ok-bytes.ensures.bytes) c.in-Cached.is c.in_ok-look.ensures.ok in
     kept_leaves g.D.Device.seen g.D.Device.may_leave g.D.Device.moment g.D.Device.left_since c.args.device.now
     c.read.new.self c.requires.durable (g.met.D.Device.only_now c.args.device.now)
     c.read.ensures.crash c.read.ensures.time c.read.ensures.seen c.args.servers batches stands
-    found.0 c.in-Cached.place found.1 c.close.new.device c.close.ensures.any_moment
+    found.0 c.in-Cached.place found.1 c.close_if_open.new.device c.close_if_open.ensures.any_moment
 
 pub returns-clause-any_moment : goal.returns-clause-any_moment
 returns-clause-any_moment g c batches stands =
@@ -101,7 +101,7 @@ returns-clause-any_moment g c batches stands =
     kept_leaves g.D.Device.seen g.D.Device.may_leave g.D.Device.moment g.D.Device.left_since c.args.device.now
     c.read.new.self c.requires.durable (g.met.D.Device.only_now c.args.device.now)
     c.read.ensures.crash c.read.ensures.time c.read.ensures.seen c.args.servers batches stands
-    found.0 c.in-Cached.place found.1 c.close.new.device c.close.ensures.any_moment
+    found.0 c.in-Cached.place found.1 c.close_if_open.new.device c.close_if_open.ensures.any_moment
 
 pub returns-clause-read : goal.returns-clause-read
 returns-clause-read g c =
@@ -110,15 +110,15 @@ returns-clause-read g c =
     (c.deref.ensures.value ∙ c.in_ok-bytes.ensures.bytes) c.in-Cached.is c.in_ok-look.ensures.ok in
     let rests = closed_stands c.args.servers found.0 c.in-Cached.place (g.D.Device.seen c.args.device.now)
     (g.D.Device.seen c.read.new.self) c.read.ensures.seen found.1 in
-    let closed : g.D.Device.seen c.close.new.device ≡ take c.in-Cached.place.end (g.D.Device.seen c.read.new.self) ++ 0 ∷ [] = search rules in (
+    let closed : g.D.Device.seen c.close_if_open.new.device ≡ take c.in-Cached.place.end (g.D.Device.seen c.read.new.self) ++ 0 ∷ [] = search rules in (
       found.0,
       inl (keeps c.args.servers found.0 (g.D.Device.seen c.args.device.now) c.in-Cached.place found.1),
       record {
         texts = found.1.texts;
         text_is = found.2;
         is_place = found.1.is_place;
-        file = rests (g.D.Device.seen c.close.new.device) closed;
-        durable = c.in_ok-close-in-Cached.ensures.durable;
+        file = rests (g.D.Device.seen c.close_if_open.new.device) closed;
+        durable = c.in_ok-close_if_open-in-Cached.ensures.durable;
       },
     )
 
