@@ -6,10 +6,10 @@ with 200 calls under way on each: of the first thousand, of all, and of the last
 the memory that the program takes for each node. A server is in memory, or keeps a folder.
 
 The second has the seconds to open that folder, and what a lone connection sees that sets one node
-again and again: the median and the longest of its requests, without a compaction and over some.
+again and again: the median and the longest of its requests. It is alone, or beside writes that make
+the journal grow, which is compacted or not.
 """
 import contextlib
-import os
 import statistics
 import sys
 import threading
@@ -92,29 +92,38 @@ def tell_waits(name, found):
     measuring.row(name, f"{len(found):,}", *ms)
 
 
+def beside(server, load, seconds):
+    """What a lone connection waits, beside one that makes the journal grow."""
+    stop = threading.Event()
+    other = threading.Thread(target=written, args=(server, load, stop))
+    other.start()
+    found = waits(server, seconds)
+    stop.set()
+    other.join()
+    return found
+
+
 def of_folder(builds, load, nodes, seconds):
     """A folder is filled, opened and compacted."""
     folder = f"{builds.room}/full"
     it = serve.kept(builds, folder, journal=LONG)
     tell_rates(it, *fill(load, it, nodes))
     it.stop()
-    it = serve.kept(builds, folder, journal=LONG)
-    print(f"\nopened in {it.opened:.1f} s, {os.path.getsize(f'{folder}/journal'):,} bytes")
+    it = serve.kept(builds, folder, journal=serve.NEVER)
+    print(f"\nopened in {it.opened:.1f} s")
     measuring.head("Requests", "Count", "Median, ms", "Longest, ms")
-    tell_waits("alone", waits(it, seconds / 4))
-    stop = threading.Event()
-    other = threading.Thread(target=written, args=(it, load, stop))
-    other.start()
-    tell_waits("beside writes and compactions", waits(it, seconds))
-    stop.set()
-    other.join()
+    tell_waits("alone", waits(it, seconds))
+    tell_waits("beside writes", beside(it, load, seconds))
+    it.stop()
+    it = serve.kept(builds, folder, journal=LONG)
+    tell_waits("beside writes and compactions", beside(it, load, 3 * seconds))
     it.stop()
 
 
 def main():
     words = measuring.parser(__doc__)
     words.add_argument("--nodes", type=int, default=NODES)
-    words.add_argument("--seconds", type=int, default=60)
+    words.add_argument("--seconds", type=int, default=20)
     given = words.parse_args()
     with measuring.builds(given) as builds:
         load = builds.compiled("load", ["bench/load.c"])

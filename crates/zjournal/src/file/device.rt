@@ -38,6 +38,8 @@ pub struct FileDevice<R> {
     // The new file, if one is begun and whole so far, and the one that lost its name last. That one
     // stays locked: it keeps out a program that opened it earlier and doesn't check the name again.
     pub(super) beside: Option<File>,
+    // How many of its bytes were added since it was synced.
+    pub(super) unsynced: usize,
     pub(super) former: Option<File>,
     // A new part that is whole so far, until it has the name.
     pub(super) next: Option<NewPart>,
@@ -118,6 +120,7 @@ impl<R: Files<File = File> + Copy> FileDevice<R> {
             place: found.place,
             file: found.file,
             beside: None,
+            unsynced: 0,
             former: None,
             next: None,
             mode,
@@ -245,9 +248,8 @@ impl<R: Files<File = File> + Copy> Device for FileDevice<R> {
     }
 
     fn add_beside(&mut self, bytes: &[u8]) -> Result<(), DeviceError> {
-        let done = match &self.beside {
-            Some(next) if !self.has_failed => calls::append(next, bytes),
-            _ => return Err(self.refuse()),
+        let Some(done) = self.append(bytes) else {
+            return Err(self.refuse());
         };
         self.waits = None;
         if done {

@@ -11,8 +11,31 @@ use crate::file::{FileDevice, SyncMode, calls, marks, parts};
 use std::fs::{File, Files};
 use std::mem;
 
+// After so many bytes a new file beside a server is synced.
+const SPREAD: usize = 1 << 20;
+
 impl<R: Files<File = File> + Copy> FileDevice<R> {
     ghost use Rattle.zjournal.specs.file.File.{events_of, mode_of};
+
+    // Appends bytes to the new file. One that is to replace the parts before the last is synced after
+    // each MiB: one long sync would hold up those of the server. Returns whether all was done, and
+    // `None` if there is no new file to which calls are made.
+    pub(super) fn append(&mut self, bytes: &[u8]) -> Option<bool>
+        ensures same { self.new ≡ record self.old { unsynced = self.new.unsynced } }
+    {
+        match &self.beside {
+            Some(next) if !self.has_failed => {
+                let is_added = calls::append(next, bytes);
+                self.unsynced = self.unsynced.saturating_add(bytes.len());
+                if !self.place.is_beginning || self.unsynced < SPREAD {
+                    return Some(is_added);
+                }
+                self.unsynced = 0;
+                Some(is_added && calls::sync(next))
+            }
+            _ => None,
+        }
+    }
 
     // Asks the disk to make the new file durable, unless syncs are skipped.
     fn is_new_file_synced(&self) -> bool {
