@@ -177,7 +177,9 @@ class Reader:
         return self.sized().decode("ascii")
 
     def stat(self):
-        return "stat " + " ".join(str(self.long()) for _ in range(10))
+        """A stat, without its eighth number: no script says how often an ACL was written."""
+        found = [self.long() for _ in range(11)]
+        return " ".join(map(str, ["stat", *found[:7], *found[8:]]))
 
     def part(self):
         return (self.text, lambda: "deleted", self.stat, lambda: "checked")[self.byte()]()

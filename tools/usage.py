@@ -35,8 +35,7 @@ A coordination service with ZooKeeper's data model and chain replication.
 Without a proved program each builds one without proof, in a minute, and says so.
 
 ./zk install --prefix DIR     installs the server: it needs no toolchain there
-./zk prove [script|race|serve|node|library]
-                              proves it by the toolchain's rt ci, in an hour
+./zk prove [NAME]             proves script, race, serve, node or library: an hour
 ./zk --proved script ..       runs the proved program or none; --unproved, the other
 ./zk --version                the version, and which program would run
 ./zk clean [--all]            removes programs that aren't of this checkout, or all

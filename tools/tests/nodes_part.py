@@ -239,7 +239,7 @@ def codec(_):
     want_same(messages.frame(2, 1, *ask(7, b"0 tick")), b"\0" + submit, "an update")
     answer = bytes([0, 0, 0, 0, 15, 1, 3, 2, 2, 2, *bytes(7), 8, 11, 0])
     want_same(messages.answers(answer + b"\0"), ([(8, "no NoNode")], b"\0"), "an answer")
-    stat = "stat 1 2 3 4 5 6 7 8 9 10"
+    stat = "stat 1 2 3 4 5 6 7 9 10 11"
     texts = [messages.Reader(data).reply() for data in examples("replies_have_bytes")]
     want_same(texts, [
         "ok /a", "ok deleted", f"ok {stat}", "ok multi checked ; deleted", "ok multi /a",

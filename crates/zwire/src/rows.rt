@@ -116,8 +116,8 @@ pub fn faults_are_reported()
     ensures none { IsFaultOf contents [] Cut }
     ensures part_of_a_length { IsFaultOf contents (0 ∷ 0 ∷ 0 ∷ []) Cut }
     ensures part_of_a_frame { IsFaultOf contents (0 ∷ 0 ∷ 0 ∷ 4 ∷ 0 ∷ 1 ∷ 2 ∷ []) Cut }
-    ensures longest { IsFaultOf contents (128 ∷ 0 ∷ 0 ∷ 0 ∷ []) Cut }
-    ensures too_long { IsFaultOf contents (128 ∷ 0 ∷ 0 ∷ 1 ∷ []) TooLong }
+    ensures longest { IsFaultOf contents (127 ∷ 253 ∷ 56 ∷ 0 ∷ []) Cut }
+    ensures too_long { IsFaultOf contents (127 ∷ 253 ∷ 56 ∷ 1 ∷ []) TooLong }
     ensures far_too_long { IsFaultOf contents (255 ∷ 255 ∷ 255 ∷ 255 ∷ []) TooLong }
     ensures empty { IsFaultOf contents (0 ∷ 0 ∷ 0 ∷ 0 ∷ []) (Contents Short) }
     ensures no_message { IsFaultOf contents (0 ∷ 0 ∷ 0 ∷ 3 ∷ 0 ∷ 1 ∷ 2 ∷ []) (Contents Short) }

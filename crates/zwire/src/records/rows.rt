@@ -59,9 +59,9 @@ pub fn bytes_are_records()
     ensures other_tag { whole logged (6 ∷ []) ≡ Err Invalid }
     ensures longest_row { whole logged (5 ∷ 0 ∷ 16 ∷ 20 ∷ 22 ∷ []) ≡ Err Short }
     ensures long_row { whole logged (5 ∷ 0 ∷ 16 ∷ 20 ∷ 23 ∷ []) ≡ Err Long }
-    ensures longest_data { whole logged (1 ∷ 2 ∷ 0 ∷ 0 ∷ 0 ∷ 1 ∷ 47 ∷ 0 ∷ 0 ∷ 16 ∷ 0 ∷ 0 ∷ [])
+    ensures longest_data { whole logged (1 ∷ 2 ∷ 0 ∷ 0 ∷ 0 ∷ 1 ∷ 47 ∷ 0 ∷ 0 ∷ 15 ∷ 255 ∷ 167 ∷ [])
         ≡ Err Short }
-    ensures long_data { whole logged (1 ∷ 2 ∷ 0 ∷ 0 ∷ 0 ∷ 1 ∷ 47 ∷ 0 ∷ 0 ∷ 16 ∷ 0 ∷ 1 ∷ [])
+    ensures long_data { whole logged (1 ∷ 2 ∷ 0 ∷ 0 ∷ 0 ∷ 1 ∷ 47 ∷ 0 ∷ 0 ∷ 15 ∷ 255 ∷ 168 ∷ [])
         ≡ Err Long }
     ensures short_row { whole logged (5 ∷ 0 ∷ 0 ∷ 0 ∷ 2 ∷ 7 ∷ []) ≡ Err Short }
     ensures other_change { whole logged (1 ∷ 9 ∷ []) ≡ Err Invalid }
