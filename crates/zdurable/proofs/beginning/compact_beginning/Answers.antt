@@ -6,7 +6,7 @@ use Rattle.zjournal.specs.Checksum.{sum_after_all}
 use Rattle.zjournal.specs.Journal.{device_of}
 use Rattle.zjournal.specs.Scan.{joined}
 use Rattle.zsnapshots.specs.folder.Texts.{IsTextOf}
-use Rattle.zdurable.proofs.Renewing.{IsWriting, begun, ends_here, goes_on, keeps_more, leaves_old, replaces, stays_old, texts_in}
+use Rattle.zdurable.proofs.Renewing.{IsWriting, begun, goes_on, keeps_more, leaves_old, replaces, stays_old, texts_in}
 use Rattle.zdurable.proofs.beginning.compact_beginning.Goals as goal
 
 pub start_before-start-requires : goal.start_before-start-requires
