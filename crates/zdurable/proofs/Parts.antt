@@ -1,5 +1,5 @@
 -- The parts of a file: what the last one holds continues from those before it.
-use Rattle.std.proofs.Common.{◌≡◌, inl, ℕ, ◌+◌, ◌-◌, List, [], ◌∷◌, ◌++◌, length, take, refl, sym, ap, subst, ◌∙◌, append_assoc, arith, length-append}
+use Rattle.std.proofs.Common.{◌≡◌, inl, ℕ, ◌-◌, List, [], ◌∷◌, ◌++◌, length, take, refl, sym, ap, subst, ◌∙◌, append_assoc, arith, length-append}
 use Rattle.ztree.specs.Tree.{Tree}
 use Rattle.zjournal.specs.Blocks.{AreTexts, at_rest, blocks}
 use Rattle.zjournal.specs.Checksum.{IsSum, adler_after, stamped, stamped_all, sum_after_all}

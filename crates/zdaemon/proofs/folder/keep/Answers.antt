@@ -3,8 +3,8 @@ use Rattle.zsnapshots.specs.folder.States.{after}
 use Rattle.zdurable.specs.DurableFront.{made_in, more_if}
 use Rattle.zdaemon.proofs.folder.keep.Goals as goal
 
-pub returns-then-not-is_long-clause-keeps : goal.returns-then-not-is_long-clause-keeps
-returns-then-not-is_long-clause-keeps g c = record {
+pub returns-then-not-branch-clause-keeps : goal.returns-then-not-branch-clause-keeps
+returns-then-not-branch-clause-keeps g c = record {
   committed = c.commit.new.self;
   from = c.commit.ensures.measured;
   begun = None;

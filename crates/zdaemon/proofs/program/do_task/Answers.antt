@@ -6,11 +6,13 @@ returns-in_ok-compact-in-Compact g c =
     rw c.in-Compact.is (c.in_ok-device-in-Compact.device, c.in_ok-device-in-Compact.ensures.opened, c.in_ok-compact-in-Compact.ensures.compacted)
 
 pub returns-in_ok-compact_beginning-in-Some : goal.returns-in_ok-compact_beginning-in-Some
-returns-in_ok-compact_beginning-in-Some g c = rw c.in-Beginning.is (inr (
-  c.in-Some.device,
-  (c.in_ok-open_beginning.ensures.mode, c.in_ok-open_beginning.ensures.fresh),
-  c.in_ok-compact_beginning.ensures.compacted,
-))
+returns-in_ok-compact_beginning-in-Some g c =
+    let opened = c.in_ok-device-in-Beginning.ensures in
+    rw c.in-Beginning.is (inr (
+      c.in-Some.device,
+      (rw c.in-Some.is at opened.mode, rw c.in-Some.is at opened.fresh),
+      c.in_ok-compact_beginning-in-Some.ensures.compacted,
+    ))
 
 pub returns-in-None : goal.returns-in-None
 returns-in-None g c = rw c.in-Beginning.is (inl (g.met.K.Sink.took_nothing c.args.sink.now))

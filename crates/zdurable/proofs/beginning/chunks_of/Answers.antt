@@ -1,5 +1,4 @@
-use Rattle.std.proofs.Common.{[], ap, subst, sym, ◌∙◌}
-use Rattle.zdurable.proofs.Renewing.{AreChunks, chunk_added, chunk_shorter, no_chunk, text_added, text_is, text_keeps, texts_in}
+use Rattle.zdurable.proofs.Renewing.{chunk_added, chunk_shorter, no_chunk, text_added, text_is, text_keeps, texts_in}
 use Rattle.zdurable.proofs.beginning.chunks_of.Goals as goal
 
 pub loop-chunks-init : goal.loop-chunks-init

@@ -1,4 +1,4 @@
-use Rattle.std.proofs.Common.{◌≡◌, ℕ, List, [], ◌∷◌, ◌++◌, ◌+◌, take, get_or, map, ap, subst, sym, ◌∙◌}
+use Rattle.std.proofs.Common.{◌≡◌, ℕ, List, [], ◌∷◌, ◌++◌, take, ap, subst, sym, ◌∙◌}
 use Rattle.std.proofs.lemmas.List.{map_more, take_all}
 use Rattle.std.specs.declared.vec.Vec.{Vec}
 use Rattle.std.specs.declared.alloc.Global.{Global}
@@ -6,7 +6,7 @@ use Rattle.zjournal.specs.Checksum.{sum_after_all}
 use Rattle.zjournal.specs.Journal.{device_of}
 use Rattle.zjournal.specs.Scan.{joined}
 use Rattle.zsnapshots.specs.folder.Texts.{IsTextOf}
-use Rattle.zdurable.proofs.Renewing.{IsWriting, begun, ends_here, goes_on, keeps_more, leaves_old, replaces, stays_old, texts_in}
+use Rattle.zdurable.proofs.Renewing.{IsWriting, begun, goes_on, keeps_more, leaves_old, replaces, stays_old, texts_in}
 use Rattle.zdurable.proofs.beginning.compact_beginning.Goals as goal
 
 pub start_before-start-requires : goal.start_before-start-requires
@@ -42,12 +42,11 @@ pub loop-text-preserved : goal.loop-text-preserved
 loop-text-preserved g c =
     let texts = c.as_slice-texts.result.now in
     let i = c.loop-text.text-index in
-    let given : Vec ℕ Global = get_or texts i _ in
     let done = texts_in (take i texts) in
     subst (IsWriting g.D.Device.seen g.D.Device.may_leave g.D.Device.beside g.D.Device.moment g.D.Device.left_since c.start_before-start.result
     c.args.journal.now c.put_renewed.new.self)
-    (ap (λ (t : List ℕ). done ++ t ∷ []) c.deref.ensures.value
-    ∙ sym (map_more (λ (v : Vec ℕ Global). v.items) texts i _ c.loop-text-test.true))
+    (ap (λ (t : List ℕ). done ++ t ∷ []) (c.deref.ensures.value ∙ ap (λ (v : Vec ℕ Global). v.items) c.text-item.is)
+    ∙ sym (map_more (λ (v : Vec ℕ Global). v.items) texts i c.text-item.result c.loop-text-test.true))
     (goes_on g.D.Device.seen g.D.Device.may_leave g.D.Device.beside g.D.Device.moment g.D.Device.left_since c.start_before-start.result
     c.args.journal.now c.loop-text.journal done c.loop-text.invariant c.put_renewed.new.self c.deref.result.now
     c.in_ok-put_renewed.ensures.open.1 c.in_ok-put_renewed.ensures.renewing c.put_renewed.ensures.start
@@ -58,7 +57,7 @@ returns-in_err-end_renewal-clause-any_moment g c servers batches rest =
     let texts = c.as_slice-texts.result.now in
     let done = texts_in (take c.loop-text.text-index texts) in
     let all : texts_in c.in_ok-chunks.chunks.items ≡ done =
-    ap texts_in (sym c.as_slice-texts.ensures ∙ sym (take_all texts c.loop-text.text-index c.loop-text-test.false)) in
+    ap texts_in (sym c.as_slice-texts.ensures.value ∙ sym (take_all c.loop-text.text-index texts c.loop-text-test.false)) in
     replaces g.D.Device.seen g.D.Device.may_leave g.D.Device.beside g.D.Device.moment g.D.Device.left_since c.start_before-start.result
     c.args.journal.now c.loop-text.journal done c.loop-text.invariant servers batches rest c.args.tree.now.tree
     (subst (λ (l : List (List ℕ)). IsTextOf c.args.tree.now.tree (joined l)) all c.in_ok-chunks.ensures.keeps)
@@ -69,7 +68,7 @@ returns-clause-any_moment g c servers batches rest =
     let texts = c.as_slice-texts.result.now in
     let done = texts_in (take c.loop-text.text-index texts) in
     let all : texts_in c.in_ok-chunks.chunks.items ≡ done =
-    ap texts_in (sym c.as_slice-texts.ensures ∙ sym (take_all texts c.loop-text.text-index c.loop-text-test.false)) in
+    ap texts_in (sym c.as_slice-texts.ensures.value ∙ sym (take_all c.loop-text.text-index texts c.loop-text-test.false)) in
     replaces g.D.Device.seen g.D.Device.may_leave g.D.Device.beside g.D.Device.moment g.D.Device.left_since c.start_before-start.result
     c.args.journal.now c.loop-text.journal done c.loop-text.invariant servers batches rest c.args.tree.now.tree
     (subst (λ (l : List (List ℕ)). IsTextOf c.args.tree.now.tree (joined l)) all c.in_ok-chunks.ensures.keeps)
@@ -80,7 +79,7 @@ returns-clause-kept g c servers batches rest =
     let texts = c.as_slice-texts.result.now in
     let done = texts_in (take c.loop-text.text-index texts) in
     let all : texts_in c.in_ok-chunks.chunks.items ≡ done =
-    ap texts_in (sym c.as_slice-texts.ensures ∙ sym (take_all texts c.loop-text.text-index c.loop-text-test.false)) in (
+    ap texts_in (sym c.as_slice-texts.ensures.value ∙ sym (take_all c.loop-text.text-index texts c.loop-text-test.false)) in (
       done,
       c.in_ok-end_renewal.ensures.renewed servers batches done c.loop-text.invariant.is_open
           (c.loop-text.invariant.so_far servers batches rest),
@@ -98,5 +97,5 @@ returns-clause-sum g c =
     rest.place.sum
     ∙ ap (λ (start : ℕ). sum_after_all start done) (c.in_ok-end_renewal.ensures.start ∙ c.loop-text.invariant.from)
     ∙ ap (λ (l : List (Vec ℕ Global)). sum_after_all c.start_before-start.result (texts_in l))
-    (take_all texts c.loop-text.text-index c.loop-text-test.false)
+    (take_all c.loop-text.text-index texts c.loop-text-test.false)
     ∙ c.start_before-start.ensures.sum ∙ c.sum.ensures.sum
