@@ -12,13 +12,13 @@ use std::fs::{File, Files};
 use std::mem;
 
 // After so many bytes a new file beside a server is synced.
-const SPREAD: usize = 1 << 20;
+const SPREAD: usize = 1 << 17;
 
 impl<R: Files<File = File> + Copy> FileDevice<R> {
     ghost use Rattle.zjournal.specs.file.File.{events_of, mode_of};
 
     // Appends bytes to the new file. One that is to replace the parts before the last is synced after
-    // each MiB: one long sync would hold up those of the server. Returns whether all was done, and
+    // each 128 KiB: long syncs would hold up those of the server. Returns whether all was done, and
     // `None` if there is no new file to which calls are made.
     pub(super) fn append(&mut self, bytes: &[u8]) -> Option<bool>
         ensures same { self.new ≡ record self.old { unsynced = self.new.unsynced } }
