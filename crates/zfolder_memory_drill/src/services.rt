@@ -11,8 +11,8 @@ use crate::files::{stage_in, worked_file};
 use crate::trees::Stage;
 use std::alloc::Global;
 use zdurable::{
-    DurableFault, DurableFront, Input, OpenFault, Opened, Secret, ServerId, Terms,
-    TickLength, TreeLimits, WatchLimits,
+    DurableFault, DurableFront, Input, OpenFault, Opened, Secret, ServerId, Terms, TickLength,
+    TreeLimits, WatchLimits,
 };
 use zjournal::{Device, MemoryFile, OpenError};
 use ztesting::Ended;
