@@ -7,6 +7,7 @@
 #include <stdlib.h>
 #include <string.h>
 #include <sys/prctl.h>
+#include <sys/resource.h>
 #include <sys/wait.h>
 #include <unistd.h>
 #include "child.h"
@@ -32,6 +33,32 @@ void child_start(struct child *it, char *const words[]) {
     if (!it->process) become(in[0], out[1], words, parent);
     close(in[0]), close(out[1]);
     it->to = in[1], it->from = out[0];
+}
+
+/* Lets others come first, and end last. */
+static void give_way(void) {
+    int file = open("/proc/self/oom_score_adj", O_WRONLY | O_CLOEXEC);
+    bool is_put = file >= 0 && write(file, "1000", 4) == 4;
+    /* (where that can't be done, it is as likely to be ended as others) */
+    (void)is_put;
+    setpriority(PRIO_PROCESS, 0, 10);
+}
+
+bool child_beside(struct child *it, char *const words[]) {
+    int out[2], none = open("/dev/null", O_RDONLY | O_CLOEXEC);
+    if (none < 0) return false;
+    if (pipe2(out, O_CLOEXEC)) return close(none), false;
+    pid_t parent = getpid();
+    it->process = fork();
+    if (!it->process) {
+        give_way();
+        become(none, out[1], words, parent);
+    }
+    it->to = -1, it->from = out[0];
+    fcntl(it->from, F_SETFL, O_NONBLOCK);
+    close(none), close(out[1]);
+    if (it->process < 0) close(it->from);
+    return it->process > 0;
 }
 
 int child_status(struct child *it) {

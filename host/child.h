@@ -2,6 +2,7 @@
 #ifndef CHILD_H
 #define CHILD_H
 
+#include <stdbool.h>
 #include <sys/types.h>
 
 /* Its name in messages, and the pipes to its standard input and from its standard output. */
@@ -13,6 +14,10 @@ struct child {
 
 /* Starts the program that the first of these words names. It is killed when this process dies. */
 void child_start(struct child *it, char *const words[]);
+
+/* Starts one beside what this process does: without input, and behind all others where processors
+   or memory are short. A read from it doesn't wait. Returns whether it could. */
+bool child_beside(struct child *it, char *const words[]);
 
 /* Closes the pipe to it, waits for its end, and returns its status. If a signal ended it, this
    process ends. */

@@ -160,7 +160,7 @@ void take(void) {
     if (front_keep()) {
         uint64_t took = now_us() - began;
         if (asked) counted(took);
-        journal_look(took);
+        journal_look();
     }
     asked = 0;
     while ((next = front_next(&number)) != NOTHING) {

@@ -12,6 +12,7 @@
 #include <sys/random.h>
 #include <sys/stat.h>
 #include <unistd.h>
+#include "parts.h"
 #include "start.h"
 
 /* The path of a file of a folder. */
@@ -23,11 +24,12 @@ static char *path_of(const char *folder, const char *name) {
 
 int servers_of(const char *folder) {
     uint8_t head[21] = {0};
-    char *path = path_of(folder, "journal");
-    int file = open(path, O_RDONLY | O_CLOEXEC);
-    bool is_whole = file >= 0 && read(file, head, sizeof head) == sizeof head;
-    if (file >= 0) close(file);
-    free(path);
+    struct part it = part_opened(folder, 0);
+    for (uint64_t before; (before = part_before(it)); it = part_opened(folder, before)) {
+        close(it.file);
+    }
+    bool is_whole = it.file >= 0 && pread(it.file, head, sizeof head, 0) == sizeof head;
+    if (it.file >= 0) close(it.file);
     return is_whole && 1 <= head[20] && head[20] <= 16 ? head[20] : 1;
 }
 

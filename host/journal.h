@@ -1,21 +1,22 @@
-/* The journal of the folder, as a file: how long it is, and when it was compacted. */
+/* The journal of the folder, as files: how long it is, and its compaction.
+
+   Once its journal has grown, the program that serves begins a new part of it (parts.h). Then a
+   child compacts the parts before, beside the server, by the task `beginning`. */
 #ifndef JOURNAL_H
 #define JOURNAL_H
 
-#include <stdbool.h>
 #include <stdint.h>
+#include "start.h"
 
-/* From now on the journal of this folder is looked at; or none, if it is NULL. */
-void journal_open(const char *folder);
+/* From now on the journal of the folder that these words name is looked at, if they name one. */
+void journal_open(const struct words *words);
 
-/* Its bytes, and those that it had after its last compaction; 0 if there is none. */
+/* Its bytes, and those that the last compaction left; 0 if there is none. */
 uint64_t journal_bytes(void);
 uint64_t journal_compacted(void);
 
-/* Whether another journal is being written, which is to replace it. */
-bool journal_is_replaced(void);
-
-/* Prints a line if it was replaced since the last look. The last batch took so long. */
-void journal_look(uint64_t took_us);
+/* Begins a compaction if a new part was begun, and none runs; prints a line for one that has ended.
+   It never waits. */
+void journal_look(void);
 
 #endif

@@ -48,7 +48,7 @@ static void put_one(const char *type, const char *name, uint64_t value) {
 static void put_counts(void) {
     static const char *const kinds[KINDS] = {
         "connections_refused", "accepts_failed", "closed_unread", "closed_long_requests",
-        "slow_batches", "compactions"};
+        "slow_batches", "requests_limited", "compactions", "compactions_failed"};
     put_one("counter", "jellqupas_connections_accepted", counts.accepted);
     put_one("counter", "jellqupas_strangers_refused", counts.strangers);
     put_one("counter", "jellqupas_bytes_received", counts.received);
@@ -71,7 +71,8 @@ static void put_counts(void) {
         snprintf(name, sizeof name, "jellqupas_%s", kinds[i]);
         put_one("counter", name, counts.noted[i]);
     }
-    if (journal_bytes()) put_one("gauge", "jellqupas_journal_bytes", journal_bytes());
+    uint64_t bytes = journal_bytes();
+    if (bytes) put_one("gauge", "jellqupas_journal_bytes", bytes);
 }
 
 /* The numbers of the answer to `mntr` by ZooKeeper's names, a line each: name, tab, and value. */

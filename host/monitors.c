@@ -22,7 +22,9 @@ enum {
     /* The ticks of the shortest timeout of a session. */
     LEAST_TICKS = 2,
     /* The least bytes of an answer, also of one to a greeting. */
-    GREETED = 20
+    GREETED = 20,
+    /* The code of a refusal by a limit. */
+    SYSTEM_ERROR = -1
 };
 
 static const struct words *given;
@@ -238,5 +240,8 @@ void monitors_see(struct seen *seen, const uint8_t *chunk, size_t count) {
         /* (xids below 0 are of pings and events, and an event's zxid is -1) */
         if (xid >> 31 == 0) seen->xid = xid;
         if (zxid >> 63 == 0) seen->zxid = zxid;
+        if ((int32_t)number_at(chunk + 16, 4) == SYSTEM_ERROR) {
+            note(LIMITED, "a request is refused: nodes or watches are at their limit");
+        }
     }
 }

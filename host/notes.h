@@ -15,8 +15,11 @@ enum kind {
     LONG_REQUESTS,
     /* A batch took longer than SLOW. */
     SLOW_BATCH,
-    /* The journal was replaced by a shorter one. */
+    /* A request was refused with SystemError. */
+    LIMITED,
+    /* The parts of the journal before the last one were replaced by a shorter one, or weren't. */
     COMPACTED,
+    UNCOMPACTED,
     KINDS
 };
 

@@ -19,7 +19,6 @@
 #include <unistd.h>
 #include "child.h"
 #include "front.h"
-#include "journal.h"
 #include "logins.h"
 #include "notes.h"
 
@@ -92,7 +91,6 @@ static void wait_for_child(const char *what, int signals) {
     while (poll(ends, 2, took < told ? (int)(told - took) : 0) <= 0) {
         took = now() - began;
         if (took < told) continue;
-        if (journal_is_replaced()) what = "compacting the journal";
         fprintf(stderr, "zk: %s: %llu s so far\n", what, (unsigned long long)told / 1000);
         told *= 2;
     }

@@ -162,7 +162,7 @@ static void pass(int milliseconds) {
     finish();
 }
 
-/* Closes those whose patience has ended; once a second. */
+/* Closes those whose patience has ended, and looks at the journal; once a second. */
 static void look(void) {
     struct epoll_event event = {.events = EPOLLIN, .data.u32 = LISTENER};
     epoll_ctl(events, EPOLL_CTL_MOD, listener, &event);
@@ -171,6 +171,7 @@ static void look(void) {
         if (all[i].late && now() >= all[i].late) send_on(i);
     }
     metrics_look();
+    journal_look();
     finish();
 }
 
@@ -251,7 +252,7 @@ int main(int count, char **given) {
     if (!is_added(signals, SIGNALS) || !is_added(listener, LISTENER)) {
         stop(3, "nothing can be waited for: %s", strerror(errno));
     }
-    journal_open(words.data);
+    journal_open(&words);
     monitors_open(&words, port);
     if (words.metrics) metrics_open(&words);
     tick = (uint64_t)words.tick;

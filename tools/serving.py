@@ -19,12 +19,12 @@ PROGRAM, NODE_PROGRAM = "zk_serve", "zk_node"
 # What the hosts are compiled of.
 HOST = tuple(f"host/{it}.c" for it in (
     "serve", "connections", "monitors", "metrics", "journal", "notes", "start", "piped", "folder",
-    "copy", "child", "bytes", "progress", "logins", "strangers"))
+    "copy", "parts", "child", "bytes", "progress", "logins", "strangers"))
 NODE_HOST = tuple(f"host/{it}.c" for it in (
     "node", "seat", "log", "peers", "guests", "bytes", "child", "start"))
 HEADERS = (*(f"host/{it}.h" for it in (
     "bytes", "child", "connections", "front", "journal", "logins", "metrics", "monitors", "node",
-    "notes", "start", "strangers")),
+    "notes", "parts", "start", "strangers")),
     "include/jellqupas.h")
 FLAGS = "-std=c11 -O2 -Wall -Wextra".split()
 COMPILERS = ("cc", "gcc", "clang")

@@ -1,7 +1,8 @@
 """A server's folder of an older version, whose journal is written anew in the format of this one.
 
-An older journal has another word in its head. A snapshot there has no limits of the tree, since all
-had the same, and its nodes have no version of their access control lists. Entries are the same.
+An older journal has another head: version 1 has no word there, and version 2 has one of two. With
+the second word, all but the head is as now. Before that a snapshot has no limits of the tree, since
+all had the same, and its nodes have no version of their access control lists. Entries are the same.
 The old file stays as journal.old.
 """
 import base64
@@ -14,7 +15,9 @@ import zlib
 
 from ending import Stopped
 
-MARK, OLD, NEW, NONE = b"jellqupas journal ", b"tree of zk  ", b"tree of zk 2", b" " * 12
+MARK, NONE, OLD, NEW = b"jellqupas journal ", b" " * 12, b"tree of zk  ", b"tree of zk 2"
+# The version of this program's journals, their word, and the sum from which checksums continue.
+VERSION, WORD, START = 3, b"tree", 1
 # The tag of a row among records; the limits that trees had: nodes, sessions, and a timeout's ticks.
 ROW, LIMITS = 5, (4096, 1024, 20)
 # The bytes of an older header, and where those of its counts begin.
@@ -42,9 +45,9 @@ def blocks_of(data):
 
 def texts_of(blocks, is_running):
     """The texts of blocks, whose checksums are right: of each, or of all texts so far."""
-    found, total = [], 1
+    found, total = [], START
     for at, held in blocks:
-        total = zlib.adler32(held[8:], total if is_running else 1)
+        total = zlib.adler32(held[8:], total if is_running else START)
         if held[:8] != b"%08x" % total:
             raise Damaged(f"damaged at byte {at}")
         found.append(held[8:])
@@ -90,19 +93,21 @@ def line_of(line, rows):
 
 def renewed(data):
     """The bytes of a journal, in the format of this version."""
+    # (a journal of several parts begins otherwise)
+    if data.startswith((bytes([IS_SET]) + MARK + bytes([VERSION]), b"after ")):
+        raise Damaged("it is of this version already")
     if not data.startswith(bytes([IS_SET]) + MARK):
         raise Damaged("not a journal")
     (_, head), *blocks = blocks_of(data)
     version, servers, word = head[18], head[19], head[20:]
-    if (version, word) == (2, NEW):
-        raise Damaged("it is of this version already")
-    if (version, word) not in ((1, NONE), (2, OLD)):
+    if (version, word) not in ((1, NONE), (2, OLD), (2, NEW)):
         raise Damaged("a journal of something else")
-    rows, total = Rows(), 1
-    made = [MARK + bytes([2, servers]) + NEW]
+    rows, total = Rows(), START
+    made = [MARK + bytes([VERSION, servers]) + WORD + b"%08x" % START]
     for text in texts_of(blocks, version == 2):
-        lines = text.split(b"\n")
-        text = b"\n".join(line_of(it, rows) if it else it for it in lines)
+        if word != NEW:
+            lines = text.split(b"\n")
+            text = b"\n".join(line_of(it, rows) if it else it for it in lines)
         total = zlib.adler32(text, total)
         made.append(b"%08x" % total + text)
     return b"".join(bytes([IS_SET]) + it + b"\0" for it in made) + bytes([CLEAR])

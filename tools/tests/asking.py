@@ -307,6 +307,7 @@ def chosen(builds):
         for number in range(4):
             it.create(f"/n{number}", b"0123456789")
         want_same(refused(it.create, "/n4"), SYSTEM, "a fifth node below the root")
+        want("nodes or watches are at their limit" in server.said(), server.said())
         want_same(refused(it.set, "/n0", b"01234567890"), ARGUMENTS, "eleven bytes")
         for code, count in ((OK, 3), (ARGUMENTS, 4)):
             check, look = (CHECK, at_version("/n0")), (LS, look_body("/"))

@@ -1,21 +1,22 @@
 """The folder of a server: what was acknowledged is kept, over kills, full disks and restarts."""
 import base64
-import fcntl
 import os
 import random
 import re
 import shutil
 import signal
 import tempfile
-import threading
 import time
 
 import compactions
+import copying
 import mending
-import sources
+import parts
+import upgrades
+from copying import Writer
 from frames import *
 from report import Failed, Test, want, want_same
-from servers import PROFILE, Server, ended, new_folder, program, serving, until, words_of
+from servers import Server, ended, new_folder, program, serving, until, words_of
 from wire import NO_SESSION, Ended, greeted, refused
 
 LIVES = 10
@@ -23,48 +24,8 @@ LIVES = 10
 SHORT, PAD = ("--journal", "1"), b" " * 20000
 LARGE, ROOT = bytes(range(256)) * 250, base64.b64encode(b"root").decode()
 TASKS, FILES = ("compact", "export", "stat"), ["journal", "secret"]
-# A journal of an earlier version, with 3 in its head: a session, its password, and a node.
-OF_BEFORE = ("AWplbGxxdXBhcyBqb3VybmFsIAEDICAgICAgICAgICAgAAEwNjdkMGI5ZkFBRUNBd1FGQmdjSUNRb0xEQTB"
-             "PRHhBPQpBUVFBQUFBQUFBQUFCZz09CgABM2Q2YjA1YjNBUUFBQUFBQ0wyRUFBQUFBQW1ocAoAAA==")
-# A journal of an older version: a snapshot with two nodes and a session, and changes after it.
-OF_OLDER = (
-    "AWplbGxxdXBhcyBqb3VybmFsIAIBdHJlZSBvZiB6ayAgAAFkZTQxODZhMkJRQUFBQ2dBQUFBa0FBQUFBQUFBQUFBQUFB"
-    "QUFBQUFBQVFBQUFBQUFBQUFFQUFBQUFRQUFBQUlBQUFBQQpCUUFBQUYwQUFBQlpBQUFBQVM4QUFBQUFBQUFBQUFBQUFB"
-    "QUFBQUFBQUFBQUFBQUFBQUlBQUFBQUFBQUFBQUFBQUFBQUFBQUFBQUFBQUFBQUFBQUFBQUFBQUFBQUFRQUFBQUFBQUFB"
-    "QUFBQUFBQUFBQUFBQUFBQUFBQUFBQUFBQUFBQT0KQlFBQUFCMEFBQUFaQUFBQUFBQUFBQUVBQUFBQUFBQUFBQlFBQUFB"
-    "QUFBQUFGUT09CkJRQUFBR0FBQUFCY0FBQUFBaTloQUFBQUFBQUFBQUlBQUFBQUFBQUFCQUFBQUFBQUFBQURBQUFBQUFB"
-    "QUFBRUFBQUFBQUFBQUFRQUFBQUFBQUFBQkFBQUFBQUFBQUFFQUFBQUFBQUFBQUFBQUFBQUFBQUFBQUFBQUFBQUFBQUFB"
-    "QUFBQ2FHaz0KQlFBQUFHUUFBQUJnQUFBQUJDOWhMMlVBQUFBQUFBQUFBd0FBQUFBQUFBQURBQUFBQUFBQUFBTUFBQUFB"
-    "QUFBQUFRQUFBQUFBQUFBQkFBQUFBQUFBQUFBQUFBQUFBQUFBQUFBQUFBQUFBQUFCQUFBQUFBQUFBQUFBQUFBQUFBQUFB"
-    "QUFBQUFSdGFXNWwKAAFiMzZmOGMyNEFRVUFBQUFBQUFBQUFRPT0KQVFjPQoAATJiMDA5MDViQVFRQUFBQUFBQUFBRkE9"
-    "PQoAATQxMjU5NjFiQVFJQUFBQUNMMkVBQUFBQUFtaHYKAAFiYmZhOWU0ZUFRQUFBQUFDTDJJQUFBQUFCbUpsYUdsdVpB"
-    "PT0KAAA="
-)
 # A command after which a file has at most 65,536 bytes.
 LIMITED = ("sh", "-c", 'trap "" XFSZ; ulimit -f 128; exec "$0" "$@"')
-
-
-class Writer(threading.Thread):
-    """Sets a node of its own to 1, 2, 3, .., many at once, until the server ends."""
-
-    def __init__(self, client, path, many, pad):
-        super().__init__(daemon=True)
-        self.client, self.path, self.many, self.pad, self.codes = client, path, many, pad, set()
-        self.sent = self.answered = int(client.get(path)[0])
-        self.start()
-
-    def run(self):
-        try:
-            while True:
-                numbers = range(self.sent + 1, self.sent + 1 + self.many)
-                self.sent = numbers[-1]
-                for it in numbers:
-                    self.client.post(SET, set_body(self.path, b"%d" % it + self.pad), it)
-                for it in numbers:
-                    self.codes.add(self.client.answer(it).code)
-                    self.answered = it
-        except Ended:
-            self.client.drop()
 
 
 def live(builds, folder, clients, chance, words):
@@ -172,52 +133,6 @@ def secret(builds):
     want_same(sorted(os.listdir(f"{folder}/{name}")), FILES, "its files")
 
 
-def of_before(builds):
-    """A folder whose journal has the password of its one session: that opens another one.
-
-    Its journal has version 1, and goes on in it until it is shortened.
-    """
-    folder, note = new_folder(builds), "zk: data: clients of before open new sessions\n"
-    os.mkdir(folder)
-    with open(f"{folder}/journal", "wb") as file:
-        file.write(base64.b64decode(OF_BEFORE))
-    for has_note, version in ((True, 1), (False, 2)):
-        with Server(builds, folder, PROFILE) as server, server.client() as it:
-            want_same(it.get("/a")[0], b"hi", "its node")
-            want_same(note in server.said(), has_note, "the note")
-            it.session = 1
-            want_same(greeted(server.address, it, bytes(range(1, 17))), NO_SESSION, "its session")
-        with open(f"{folder}/journal", "rb") as file:
-            want_same(file.read()[19], version, "the version of its journal")
-        want_same(at_rest(builds, folder, "compact", 3)[0], 0, "compact")
-
-
-def of_older(builds):
-    """A folder of an older version is refused, and says how it is upgraded. Then it is as it was."""
-    folder, zk = new_folder(builds), f"{sources.ROOT}/zk"
-    os.mkdir(folder)
-    older = base64.b64decode(OF_OLDER)
-    with open(f"{folder}/journal", "wb") as file:
-        file.write(older)
-    for task in ("serve", *TASKS):
-        said = "zk: data: a folder of an older version: ./zk upgrade FOLDER\n"
-        want_same(at_rest(builds, folder, task), (3, "", said), task)
-    upgrade = lambda: ended([zk, "upgrade", folder])
-    with open(f"{folder}/journal", "rb") as file:
-        fcntl.flock(file, fcntl.LOCK_EX)
-        want_same(upgrade()[0], 3, "a folder in use")
-    status, out, said = upgrade()
-    want((status, out.count("\n"), said) == (0, 1, ""), f"{status} {out} {said}")
-    with open(f"{folder}/journal.old", "rb") as file:
-        want_same(file.read(), older, "the old file")
-    with Server(builds, folder) as server, server.client() as it:
-        found = [it.get(path)[0] for path in ("/a", "/b", "/a/e")]
-        want_same(found, [b"ho", b"behind", b"mine"], "its nodes")
-        want_same((it.exists("/a").version, it.exists("/a").aversion), (2, 0), "versions")
-        want_same(it.exists("/a/e").owner, 1, "its session")
-    want_same(upgrade()[0], 3, "one of this version")
-
-
 def other_limits(builds):
     """Other limits at a restart. A folder that needs more says of what, and how much."""
     folder, size = new_folder(builds), lambda: os.path.getsize(f"{folder}/journal")
@@ -250,19 +165,21 @@ def other_limits(builds):
 
 
 def shortening(builds):
-    """A journal is shortened while a client goes on, and by `compact`. It keeps all it kept."""
-    folder, longest, size = new_folder(builds), 0, lambda: os.path.getsize(f"{folder}/journal") - 1
+    """A journal is compacted while a client goes on, and by `compact`. It keeps all it kept."""
+    folder, size = new_folder(builds), lambda: len(parts.content(folder)) - 1
     with Server(builds, folder, SHORT) as server, server.client() as it:
         it.create("/a")
         it.create("/a/e", b"mine", EPHEMERAL)
-        for number in range(80):
+        for number in range(100):
             it.set("/a", b"%d" % number + PAD)
-            longest = max(longest, size())
+        want(until(lambda: parts.TOLD.search(server.said())), server.said())
+        before, after = map(int, parts.TOLD.search(server.said()).groups())
+        want(2000000 < before < 2300000 and after < 60000, f"{before} bytes, then {after}")
         before = seen(it)
         for task in TASKS:
             in_use = (3, "", "zk: data: the folder is in use\n")
             want_same(at_rest(builds, folder, task), in_use, f"{task} of a folder in use")
-    want(1000000 < longest < 1100000, f"it had {longest} bytes at most")
+        want_same(at_rest(builds, folder, "beginning"), (0, "", ""), "it is done")
     long, found = size(), at_rest(builds, folder, "compact")
     want_same(found, (0, f"{size()} bytes, before {long}\n", ""), "compact")
     files = sorted(os.listdir(folder))
@@ -300,48 +217,6 @@ def export(builds):
     ], "an export that is played")
 
 
-def copies(builds):
-    """While clients write, `stat` and `export` read a copy, which has all that was acknowledged."""
-    folder, spare, (host, of) = new_folder(builds), new_folder(builds), words_of(builds)[:2]
-    words = ["env", f"TMPDIR={spare}", host]
-    os.mkdir(spare)
-    with Server(builds, folder, SHORT, sync="batch") as server, server.client() as it:
-        it.create("/a", b"0")
-        writer = Writer(server.client(), "/a", 4, b" " * 3000)
-        for _ in range(20):
-            answered = writer.answered
-            status, out, said = ended([*words, "export", of, "--data", folder])
-            want((status, "of a copy" in said) == (0, True), f"{status} {out} {said}")
-            found = int(base64.b64decode(out.split()[-1]))
-            want(answered <= found, f"{found} copied, {answered} acknowledged")
-            want_same(ended([*words, "stat", of, "--data", folder])[0], 0, "stat")
-        until(lambda: writer.answered > answered)
-    with open(f"{folder}/journal", "r+b") as file:
-        fcntl.flock(file, fcntl.LOCK_EX)
-        for missing in range(1, 13):
-            # (the last block is being written, and its commit byte was set since it was looked at)
-            file.truncate(os.path.getsize(f"{folder}/journal") - 1)
-            found = ended([*words, "stat", of, "--data", folder])
-            want_same(found[0], 0, f"a block without its last {missing} bytes: {found}")
-    want_same(os.listdir(spare), [], "what is left")
-
-
-def renewed(builds):
-    """A compaction amid a copy: the new file is copied."""
-    old, new, (host, of) = new_folder(builds), new_folder(builds), words_of(builds)[:2]
-    for folder, data in ((old, b"old"), (new, b"new")):
-        with Server(builds, folder) as server, server.client() as it:
-            it.create("/a", data)
-    library = builds.compiled("renewed.so", ["tools/tests/renewed.c"], ["-shared", "-fPIC"])
-    words = ["env", f"LD_PRELOAD={library}", "ASAN_OPTIONS=verify_asan_link_order=0",
-             f"NEW={new}/journal", f"OLD={old}/journal", host, "export", of, "--data", old]
-    with open(f"{old}/journal", "rb") as first, open(f"{new}/journal", "rb") as second:
-        fcntl.flock(first, fcntl.LOCK_EX), fcntl.flock(second, fcntl.LOCK_EX)
-        status, out, said = ended(words)
-    want((status, "of a copy" in said) == (0, True), f"{status} {out} {said}")
-    want_same(base64.b64decode(out.split()[-1]), b"new", "what was copied")
-
-
 def not_opened(builds):
     """Folders in use, that aren't there, or are damaged: refused with a line, and untouched."""
     folder = new_folder(builds)
@@ -360,9 +235,11 @@ def not_opened(builds):
         whole = file.read()
     for held, said in (
         (b"hello, world\n", "not a journal"), (whole[:33] + b"x" + whole[34:], "damaged at byte 0"),
-        (whole[:25] + b"x" + whole[26:], "a journal of something else"),
-        (whole[:19] + b"\x01" + whole[20:], "damaged at byte 0"),
-        (whole[:19] + b"\x03" + whole[20:], "a journal of version 3"), (whole[:-20], "damaged at"),
+        (whole[:23] + b"x" + whole[24:], "a journal of something else"),
+        (whole[:25] + b"x" + whole[26:], "damaged at byte 0"),
+        (whole[:32] + b"2" + whole[33:], "damaged at byte 34"),
+        (whole[:19] + b"\x02" + whole[20:], "a folder of an older version"),
+        (whole[:19] + b"\x04" + whole[20:], "a journal of version 4"), (whole[:-20], "damaged at"),
         (whole[:-20] + bytes([whole[-20] ^ 4]) + whole[-19:], "damaged at byte "),
     ):
         with open(f"{folder}/journal", "wb") as file:
@@ -421,9 +298,9 @@ def synced(builds):
 
 
 def tests(builds):
-    each = (restart, secret, of_before, of_older, other_limits, shortening, export, copies,
-            renewed, not_opened, full_disk, synced)
+    each = restart, secret, other_limits, shortening, export, not_opened, full_disk, synced
     found = [Test(f"folder: {it.__name__}", 8, lambda _, it=it: it(builds)) for it in each]
-    found += mending.tests(builds) + compactions.tests(builds)
+    for it in (mending, compactions, parts, copying, upgrades):
+        found += it.tests(builds)
     return found + [Test(f"folder: {LIVES} kills, {it}", 30, lambda _, it=it: kills(builds, it))
                     for it in range(4)]

@@ -1,5 +1,6 @@
-/* Preloaded into a program: while the file that FULL names is there, the disk has no room for a file
-   journal.new of more than 4,096 bytes. If the file that FULL names has bytes, it has none at all. */
+/* Preloaded into a program: while the file that FULL names is there, the disk has no room for a
+   file journal.new or journal.begin of more than 4,096 bytes. If the file that FULL names has
+   bytes, it has none at all. */
 #define _GNU_SOURCE
 #include <errno.h>
 #include <fcntl.h>
@@ -15,7 +16,7 @@ enum { ROOM = 4096 };
 
 static int is_new(const char *path) {
     const char *name = strrchr(path, '/');
-    return name && !strcmp(name, "/journal.new");
+    return name && (!strcmp(name, "/journal.new") || !strcmp(name, "/journal.begin"));
 }
 
 /* The room that a file has, which is `size` where the disk isn't full. */

@@ -6,6 +6,7 @@ import signal
 import socket
 import time
 
+import parts
 import serving
 from frames import *
 from report import Skipped, want, want_same
@@ -30,7 +31,6 @@ STATE = (
     "latency min/avg/max", "received", "sent", "connections", "outstanding", "zxid", "mode",
     "node count",
 )
-TOLD_COMPACTION = re.compile(r"zk: the journal was compacted: (\d+) bytes before, (\d+) after, ")
 
 
 def told(server, word):
@@ -134,11 +134,8 @@ def stalls(builds):
                 want(False, f"{word} is answered: {it.socket.recv(9)}")
             except TimeoutError:
                 it.socket.settimeout(60)
-        want(until(lambda: "zk: a batch: 2 s so far\n" in server.said()), server.said())
-        # (as if the batch wrote another journal)
-        with open(f"{folder}/journal.new", "wb"):
-            longer = "zk: compacting the journal: 4 s so far\n"
-            want(until(lambda: longer in server.said()), server.said())
+        for took in (2, 4):
+            want(until(lambda: f"zk: a batch: {took} s so far\n" in server.said()), server.said())
         os.kill(below, signal.SIGCONT)
         want_same(wires[0].rest(), b"imok", "then it is")
         want(b"zk_max_latency\t" in wires[1].rest(), "and the other")
@@ -150,16 +147,19 @@ def stalls(builds):
 
 
 def compacted(builds):
-    """A line tells of a compaction, and so does `mntr`."""
-    with Server(builds, new_folder(builds), ("--journal", "1")) as server, server.client() as it:
+    """A line tells of a compaction, and so does `mntr`. The bytes are those of all parts."""
+    folder = new_folder(builds)
+    with Server(builds, folder, parts.SHORT) as server, server.client() as it:
         it.create("/a")
-        for _ in range(20):
+        for _ in range(30):
             it.set("/a", b"x" * 60000)
-        want(TOLD_COMPACTION.search(server.said()), server.said())
-        before, after = map(int, TOLD_COMPACTION.search(server.said()).groups())
-        want(1 << 19 < before and 80000 < after < 100000, f"{before} bytes, then {after}")
-        found = pairs(told(server, "mntr"), "\t")["zk_compacted_journal_bytes"]
-        want_same(found, str(after), "after the compaction")
+        want(until(lambda: parts.TOLD.search(server.said())), server.said())
+        before, after = map(int, parts.TOLD.search(server.said()).groups())
+        want(1 << 21 < before and 80000 < after < 100000, f"{before} bytes, then {after}")
+        found = pairs(told(server, "mntr"), "\t")
+        want_same(found["zk_compacted_journal_bytes"], str(after), "after the compaction")
+        size = sum(os.path.getsize(f"{folder}/{name}") for name, _ in parts.chain(folder))
+        want_same(found["zk_journal_bytes"], str(size), "the bytes")
 
 
 def with_room(descriptors):

@@ -17,8 +17,8 @@ LAST = re.compile(r"zk: (?:anyone who can connect|calls are made by who gives) .
 # The limits of the profile. With them a new folder's journal has no snapshot.
 PROFILE = ("--nodes=4096", "--sessions=1024")
 NOTED = re.compile(
-    r"zk: (?:a batch took|a connection is|metrics at|the journal was|.* s so far"
-    r"|refused a connection).*\n")
+    r"zk: (?:a batch took|a connection is|metrics at|the journal (?:was|isn't)|.* s so far"
+    r"|a request is refused|refused a connection).*\n")
 
 
 def free_port():
@@ -93,17 +93,21 @@ class Server:
         with open(f"/proc/{pid or self.ran.pid}/status", encoding="ascii") as file:
             return int(file.read().partition(f"{word}:")[2].split()[0]) >> 10
 
+    def all_below(self):
+        """The processes that the host has started: the one that serves, and one that compacts."""
+        return running.children(self.ran.pid)
+
     def below(self):
-        """The process that the host has started."""
-        return running.children(self.ran.pid)[0]
+        return self.all_below()[0]
 
     def kill(self, of_child=False):
-        """Kills the host, or the process that it started: then both end. The host's status."""
-        below = self.below() if self.ran.poll() is None else 0
-        os.kill(below, signal.SIGKILL) if of_child else self.ran.kill()
+        """Kills the host, or the process that serves: then all end. The host's status."""
+        below = self.all_below() if self.ran.poll() is None else []
+        os.kill(below[0], signal.SIGKILL) if of_child else self.ran.kill()
         status = self.ran.wait(60)
         # (a process that has ended runs no program, whether or not its parent knows)
-        want(until(lambda: not os.path.exists(f"/proc/{below}/exe")), "its process ends")
+        there = lambda: any(os.path.exists(f"/proc/{it}/exe") for it in below)
+        want(until(lambda: not there()), "its processes end")
         return status
 
     def stop(self, sent=signal.SIGTERM, status=0, said=""):

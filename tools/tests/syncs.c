@@ -1,15 +1,25 @@
 /* Preloaded into a program. Each call adds a letter to the file that NOTED names: w is a write to a
    file, s a sync of the file written last, o another sync, and r a write to standard output. While
-   the file that FAULTS names is there, that many syncs succeed, and the next fails; or no lock is. */
+   the file that FAULTS names is there, that many syncs succeed, and the next fails; or no lock is.
+   Before the call with the number AT, of those that change files or names, the program gets the
+   signal SENT: calls are counted from 0 on, with FROM from the first link on. */
 #define _GNU_SOURCE
 #include <errno.h>
 #include <fcntl.h>
+#include <signal.h>
 #include <stdlib.h>
 #include <string.h>
 #include <sys/syscall.h>
 #include <unistd.h>
 
-static int written, syncs;
+static int written, syncs, calls, has_begun;
+
+/* Comes before each call that changes files or their names. */
+static void count(int is_link) {
+    has_begun |= is_link || !getenv("FROM");
+    if (!getenv("SENT") || !has_begun || calls++ != atoi(getenv("AT"))) return;
+    kill(getpid(), atoi(getenv("SENT")));
+}
 
 static void note(char letter) {
     const char *name = getenv("NOTED");
@@ -20,11 +30,13 @@ static void note(char letter) {
 }
 
 ssize_t write(int file, const void *from, size_t size) {
+    if (file > 2) count(0);
     note(file > 2 ? 'w' : 'r');
     return syscall(SYS_write, file > 2 ? written = file : file, from, size);
 }
 
 ssize_t pwrite(int file, const void *from, size_t size, off_t at) {
+    count(0);
     note('w');
     return syscall(SYS_pwrite64, written = file, from, size, at);
 }
@@ -42,6 +54,7 @@ static int done(long call, int file, int how, const char *fault, int number) {
 }
 
 static int synced(long call, int file) {
+    count(0);
     int status = done(call, file, 0, NULL, EIO);
     note(file == written ? 's' : 'o');
     return status;
@@ -50,3 +63,16 @@ static int synced(long call, int file) {
 int fsync(int file) { return synced(SYS_fsync, file); }
 int fdatasync(int file) { return synced(SYS_fdatasync, file); }
 int flock(int file, int how) { return done(SYS_flock, file, how, "flock", ENOLCK); }
+
+int link(const char *from, const char *to) {
+    count(1);
+    return syscall(SYS_linkat, AT_FDCWD, from, AT_FDCWD, to, 0);
+}
+
+int rename(const char *from, const char *to) {
+    count(0);
+    return syscall(SYS_renameat2, AT_FDCWD, from, AT_FDCWD, to, 0);
+}
+
+int unlink(const char *path) { return count(0), syscall(SYS_unlinkat, AT_FDCWD, path, 0); }
+int ftruncate(int file, off_t size) { return count(0), syscall(SYS_ftruncate, file, size); }

@@ -8,7 +8,8 @@ use Rattle.zsnapshots.specs.export.Texts.{stat_text}
 use Rattle.zsnapshots.specs.declared.export.stat.FolderStat.{FolderStat}
 use Rattle.zdurable.specs.Incarnations.{FileKeeps}
 use Rattle.zdurable.specs.Looking.{IsStatOf}
-use Rattle.zdurable.specs.Stored.{IsStored, bytes_of, tree_of}
+use Rattle.zdurable.specs.Compaction.{MayReplace}
+use Rattle.zdurable.specs.Stored.{IsStored, bytes_of, file_of, tree_of}
 use Rattle.zdurable.specs.declared.stored.Stored.{Stored}
 use Rattle.zsnapshots.specs.folder.Texts.{snapshot_text}
 use Rattle.zjournal.specs.Journal.{Represents}
@@ -43,3 +44,9 @@ module _ {D : Type 0} (seen : D → List ℕ) (may_leave : D → List ℕ → Ty
   abbrev pub IsCompactionReported : SinkRun → Type 0
   IsCompactionReported sink =
       (old new : Stored D) × IsCompacted old new × IsReported sink (compacted_text (bytes_of new) (bytes_of old))
+
+  -- the same where the file is all parts of a journal but the last one: it may replace them
+  abbrev pub IsBeginningReported : SinkRun → Type 0
+  IsBeginningReported sink =
+      (old new : Stored D) × IsCompacted old new × MayReplace servers (tree_of old) (seen (file_of old)) (seen (file_of new))
+      × IsReported sink (compacted_text (bytes_of new) (bytes_of old))

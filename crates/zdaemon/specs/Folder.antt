@@ -1,15 +1,13 @@
 -- What a server with a folder does between two of its states, in the words of its host.
-use Rattle.std.specs.Prelude.{◌≡◌, ◌/◌, ℕ, Bool, true, false, List, length, Option, None, Some}
+use Rattle.std.specs.Prelude.{◌≡◌, ℕ, Bool, true, false, List, length, Option, None, Some}
 use Rattle.std.specs.Option.{is_some}
 use Rattle.zfront.specs.Inputs.{Does}
 use Rattle.zfront.specs.Restoring.{all_taken}
-use Rattle.zdurable.specs.declared.compacted.Compacted.{Compacted}
-use Rattle.zdurable.specs.declared.compacted.Compacted.TheVariants.{Replaced, Postponed}
+use Rattle.zdurable.specs.Compaction.{growth_after}
 use Rattle.zdurable.specs.declared.kept.DurableFront.{DurableFront}
-use Rattle.zdurable.specs.DurableFront.{front_in, made_in, more_if, is_long, compacted_size, IsOpen, IsSameFile, IsServing, IsSound, chunk_in, without_chunk}
+use Rattle.zdurable.specs.DurableFront.{front_in, made_in, more_if, is_long, growth_of, measured_from, IsOpen, IsSameFile, IsServing, IsSound, chunk_in, without_chunk}
 use Rattle.zconnections.specs.buffers.Inputs.{InputView}
 use Rattle.zconnections.specs.buffers.Outbox.{ChunkView}
-use Rattle.zsnapshots.specs.folder.Entries.{Entry}
 use Rattle.zsnapshots.specs.folder.States.{after}
 use Rattle.zsnapshots.specs.folder.Texts.{snapshot_text}
 use Rattle.zjournal.specs.Journal.{size_of}
@@ -17,18 +15,10 @@ use Rattle.zjournal.specs.Scan.{joined}
 use Rattle.zdaemon.specs.declared.folder.InFolder.{InFolder}
 use Rattle.ztree.specs.Tree.{Tree}
 
--- the batches after a commit: with one more, if there were changes; or, if a new file replaced the
--- old one, the text of the tree alone
-abbrev pub AreNext : Option Compacted → List (List ℕ) → Tree → List Entry → List (List ℕ) → Type 0
-AreNext (Some Replaced) batches t made next = joined next ≡ snapshot_text (after t made)
-AreNext how batches t made next = next ≡ more_if made batches
-
--- the measure of the last compaction afterwards: the bytes of a new file, or half of those of a
--- journal whose compaction was postponed
-abbrev pub measure_by : {D : Type 0} → Option Compacted → DurableFront D → DurableFront D → ℕ
-measure_by None old new = compacted_size old
-measure_by (Some Replaced) old new = size_of new.journal
-measure_by (Some Postponed) old new = size_of old.journal / 2
+-- the growth of the journal afterwards, if a new part was to be begun
+abbrev pub growth_by : Option Bool → ℕ → ℕ
+growth_by None growth = growth
+growth_by (Some begun) growth = growth_after begun growth
 
 module _ {D : Type 0} (seen : D → List ℕ) (may_leave : D → List ℕ → Type 0) where
   -- it is open, and what it sent is durable
@@ -43,20 +33,22 @@ module _ {D : Type 0} (seen : D → List ℕ) (may_leave : D → List ℕ → Ty
         → IsServing seen may_leave servers batches t new
 
   -- Its changes are committed, and none is left: the file holds the tree that they leave. If the
-  -- journal was long, a compaction was tried.
+  -- journal had grown long by then, a new part was to be begun.
   pub record Keeps (long : ℕ) (old new : DurableFront D) : Type 0 where
-    pub how : Option Compacted
-    pub tried : is_some how ≡ is_long long old
+    pub committed : DurableFront D
+    pub from : measured_from committed ≡ measured_from old
+    pub begun : Option Bool
+    pub tried : is_some begun ≡ is_long long committed
+    pub measured : growth_of new ≡ growth_by begun (growth_of committed)
     pub taken : front_in new ≡ all_taken (front_in old)
-    pub measured : compacted_size new ≡ measure_by how old new
     pub keeps : (servers : ℕ) (batches : List (List ℕ)) (t : Tree) → IsServing seen may_leave servers batches t old
-        → (next : List (List ℕ)) × IsServing seen may_leave servers next (after t (made_in old)) new
-        × AreNext how batches t (made_in old) next
+        → IsServing seen may_leave servers (more_if (made_in old) batches) (after t (made_in old)) committed
+        × IsServing seen may_leave servers (more_if (made_in old) batches) (after t (made_in old)) new
 
   -- its journal was written anew, with the tree alone, and nothing is left to commit
   pub record IsWrittenAnew (old new : DurableFront D) : Type 0 where
     pub taken : front_in new ≡ all_taken (front_in old)
-    pub measured : compacted_size new ≡ size_of new.journal
+    pub measured : measured_from new ≡ size_of new.journal
     pub keeps : (servers : ℕ) (batches : List (List ℕ)) (t : Tree) → IsServing seen may_leave servers batches t old
         → (next : List (List ℕ)) × IsServing seen may_leave servers next (after t (made_in old)) new
         × (joined next ≡ snapshot_text (after t (made_in old)))

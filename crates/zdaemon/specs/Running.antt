@@ -21,13 +21,13 @@ use Rattle.zdurable.specs.Restored.{restored}
 use Rattle.zdaemon.specs.Asked.{IsAsked}
 use Rattle.zdaemon.specs.Bases.{base_at}
 use Rattle.zdaemon.specs.Tasks.{IsTask}
-use Rattle.zdaemon.specs.AtRest.{IsCompactionReported, IsExported, IsStatReported}
+use Rattle.zdaemon.specs.AtRest.{IsBeginningReported, IsCompactionReported, IsExported, IsStatReported}
 use Rattle.zdaemon.specs.Folder.{IsMended, TakesIn, KeepsIn, ReportsIn, HasReportedIn}
 use Rattle.zdaemon.specs.Guarded.{AreLogins, IsShort, ServesBehind, logins_told}
 use Rattle.zdaemon.specs.Memory.{TakesInMemory, KeepsInMemory, ReportsInMemory, HasReportedInMemory}
 use Rattle.zdaemon.specs.declared.folder.InFolder.{InFolder}
 use Rattle.zdaemon.specs.declared.tasks.Task.{Task}
-use Rattle.zdaemon.specs.declared.tasks.Task.TheVariants.{Compact, Export, Stat}
+use Rattle.zdaemon.specs.declared.tasks.Task.TheVariants.{Compact, Beginning, Export, Stat}
 use Rattle.zdaemon.specs.declared.words.FolderSettings.{FolderSettings}
 use Rattle.zdaemon.specs.declared.words.HostedSettings.{HostedSettings}
 
@@ -95,12 +95,19 @@ module _ (R : Type 0) where
 
   -- ---- a task on a folder that no server has open
 
+  -- a journal has one part, or all but the last one are compacted: nothing is printed
+  abbrev pub HasNoBeginning : SinkRun → Type 0
+  HasNoBeginning sink = sink.took []
+
   -- the journal was replaced; or the tree or the counts of its file were written, and the file is
   -- unchanged
   abbrev pub HasDone : Task → ℕ → SinkRun → Type 0
   HasDone Compact servers sink =
       (device : FileDevice R) × IsOpened Batch device
       × IsCompactionReported {D = FileDevice R} seen_of MayLeaveOf servers (seen_of device) sink
+  HasDone Beginning servers sink = HasNoBeginning sink
+      ⊎ ((device : FileDevice R) × IsOpened Batch device
+      × IsBeginningReported {D = FileDevice R} seen_of MayLeaveOf servers (seen_of device) sink)
   HasDone Export servers sink =
       (old new : FileDevice R) × IsOpened Batch old × IsExported servers (seen_of old) sink × (seen_of new ≡ seen_of old)
   HasDone Stat servers sink =

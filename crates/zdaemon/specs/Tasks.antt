@@ -1,13 +1,14 @@
--- The words for tasks on a folder that no server has open: this project's profile.
+-- The words for tasks on a folder: this project's profile.
 use Rattle.std.specs.Prelude.{◌≡◌, ℕ, if◌then◌else◌, List, [], ◌∷◌, codes, Option, Some, None}
 use Rattle.std.specs.Str.{bytes_eq}
 use Rattle.zdaemon.specs.Asked.{Spells}
 use Rattle.zdaemon.specs.declared.tasks.Task.{Task}
-use Rattle.zdaemon.specs.declared.tasks.Task.TheVariants.{Compact, Export, Stat}
+use Rattle.zdaemon.specs.declared.tasks.Task.TheVariants.{Compact, Beginning, Export, Stat}
 
 abbrev pub task_named : List ℕ → Option Task
 task_named word =
     if bytes_eq word (codes "compact") then Some Compact else
+    if bytes_eq word (codes "beginning") then Some Beginning else
     if bytes_eq word (codes "export") then Some Export else
     if bytes_eq word (codes "stat") then Some Stat else None
 

@@ -5,7 +5,9 @@ ghost use Rattle.std.specs.Prelude.{◌≡◌, false, OnOk};
 ghost use Rattle.zdevices.specs.Device.{sink_run};
 ghost use Rattle.zjournal.specs.Device.{Only};
 ghost use Rattle.zjournal.specs.file.File.{seen_of, MayLeaveOf};
-ghost use Rattle.zdaemon.specs.AtRest.{IsCompactionReported, IsExported, IsStatReported};
+ghost use Rattle.zarguments.specs.Reporting.{IsReported};
+ghost use Rattle.zdaemon.specs.AtRest.{IsBeginningReported, IsCompactionReported, IsExported};
+ghost use Rattle.zdaemon.specs.AtRest.{IsStatReported, compacted_text};
 
 use crate::fault::HostedFault;
 use crate::folder::unkept;
@@ -33,6 +35,7 @@ pub(crate) fn compact<R: Files<File = File> + Copy, K: Sink, F: Sink>(
     ensures compacted { OnOk result (IsCompactionReported (seen_of {R = R}) (MayLeaveOf {R = R})
         servers (seen_of device) (sink_run K.took K.failed sink.old sink.new)) }
 {
+    device.remove_unfinished();
     let mut stored = match Stored::open(alloc, device, servers) {
         Ok(stored) => stored,
         Err((fault, _)) => return Err(unread(fault)),
@@ -44,6 +47,45 @@ pub(crate) fn compact<R: Files<File = File> + Copy, K: Sink, F: Sink>(
     }
     stored.device().forget_failure();
     let after = stored.size();
+    report_lengths(alloc, after, before, sink)?;
+    Ok(())
+}
+
+/// Compacts a device that has all parts of a journal but the last one, and prints how many bytes it
+/// has, and had.
+pub(crate) fn compact_beginning<R: Files<File = File> + Copy, K: Sink>(
+    alloc: Global,
+    device: FileDevice<R>,
+    servers: ServerId,
+    sink: &mut K,
+) -> Result<(), HostedFault>
+    requires durable { Only (seen_of device) (MayLeaveOf device) }
+    ensures compacted { OnOk result (IsBeginningReported (seen_of {R = R}) (MayLeaveOf {R = R})
+        servers (seen_of device) (sink_run K.took K.failed sink.old sink.new)) }
+{
+    let mut stored = match Stored::open(alloc, device, servers) {
+        Ok(stored) => stored,
+        Err((fault, _)) => return Err(unread(fault)),
+    };
+    let before = stored.size();
+    if let Err(fault) = stored.compact_beginning() {
+        return Err(HostedFault::Serve(unkept(fault)));
+    }
+    let len = stored.size();
+    report_lengths(alloc, len, before, sink)?;
+    Ok(())
+}
+
+// Prints the lengths of a journal after its compaction and before.
+fn report_lengths<K: Sink>(
+    alloc: Global,
+    after: usize,
+    before: usize,
+    sink: &mut K,
+) -> Result<(), HostedFault>
+    ensures { OnOk result (IsReported (sink_run K.took K.failed sink.old sink.new)
+        (compacted_text after before)) }
+{
     let mut text = String::new(alloc);
     match write!(text, "{after} bytes, before {before}") {
         Ok(()) => {

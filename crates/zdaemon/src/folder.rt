@@ -5,20 +5,20 @@ ghost use Rattle.zdaemon.specs.Folder.{HasReportedIn, IsGood, Keeps, KeepsIn, Re
 ghost use Rattle.zdaemon.specs.Folder.{chunks_left};
 
 use crate::pipe::{Chunk, Input, ServeFault, Service};
-use zdurable::{Compacted, DurableFault, DurableFront};
+use zdurable::{DurableFault, DurableFront};
 use zjournal::Device;
 
 /// A server with a folder, as a service of its host.
 #[derive(Drop)]
 pub struct InFolder<D: Device> {
     kept: DurableFront<D>,
-    // From this many bytes on its journal is compacted.
+    // Once its journal has grown by this many bytes, a new part is begun.
     long: usize,
 }
 
 impl<D: Device> InFolder<D> {
-    /// Wraps a front end. The journal is compacted once it has `long` bytes and is four times its
-    /// size after the last compaction.
+    /// Wraps a front end. A new part of its journal is begun once it has grown by `long` bytes, and
+    /// by what `DurableFront::is_long` says.
     pub fn new(kept: DurableFront<D>, long: usize) -> InFolder<D>
         ensures kept { result.kept ≡ kept }
         ensures long { result.long ≡ long }
@@ -59,24 +59,18 @@ impl<D: Device> Service for InFolder<D> {
     }
 }
 
-// Commits the changes: in a new file if the journal is long and there is room for it, and else by
-// one more block.
+// Commits the changes. If the journal has grown long, a new part of it is begun.
 fn keep<D: Device>(kept: &mut DurableFront<D>, long: usize) -> Result<(), DurableFault>
     requires { IsGood D.seen D.may_leave kept.old }
     ensures keeps { OnOk result (Keeps D.seen D.may_leave long kept.old kept.new) }
     ensures good { OnOk result (IsGood D.seen D.may_leave kept.new) }
 {
-    if !kept.is_long(long) {
-        kept.commit()?;
+    kept.commit()?;
+    if !kept.is_long(long)? {
         return Ok(());
     }
-    match kept.compact()? {
-        Compacted::Replaced => Ok(()),
-        Compacted::Postponed => {
-            kept.commit()?; // the old file takes the changes
-            Ok(())
-        }
-    }
+    kept.split()?; // if none is begun, the last one grows on
+    Ok(())
 }
 
 /// Why a service has ended, in the words of a host.

@@ -11,12 +11,11 @@ ghost use Rattle.zdaemon.specs.Folder.{IsGood, IsMended};
 
 use crate::fault::HostedFault;
 use crate::folder::unkept;
-use crate::pipe::ServeFault;
 use std::alloc::Global;
 use std::fs::{File, Files};
 use zarguments::tell;
 use zdevices::Sink;
-use zdurable::{Compacted, DurableFront};
+use zdurable::DurableFront;
 use zjournal::file::{FileDevice, Tail};
 
 /// Reports what the opening of this device cut off, and where it is saved.
@@ -74,15 +73,9 @@ pub(crate) fn write_anew<R: Files<File = File> + Copy, F: Sink>(
         faults,
         "zk: data: the disk failed before: the journal is written anew",
     );
-    let how = match kept.compact() {
-        Ok(how) => how,
-        Err(fault) => return Err(HostedFault::Serve(unkept(fault))),
-    };
-    match how {
-        Compacted::Replaced => {
-            kept.device().forget_failure();
-            Ok(())
-        }
-        Compacted::Postponed => Err(HostedFault::Serve(ServeFault::Disk)),
+    if let Err(fault) = kept.compact() {
+        return Err(HostedFault::Serve(unkept(fault)));
     }
+    kept.device().forget_failure();
+    Ok(())
 }

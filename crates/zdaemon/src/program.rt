@@ -15,7 +15,7 @@ ghost use Rattle.zdaemon.specs.Running.{BeginsInFolder, HasDone, HasRun, IsOpene
 ghost use Rattle.zdaemon.specs.pipe.Messages.MessageView.{Keep};
 ghost use Rattle.zdaemon.specs.pipe.Serving.{ServesAll};
 
-use crate::at_rest::{compact, export, stat};
+use crate::at_rest::{compact, compact_beginning, export, stat};
 use crate::base::base_at;
 use crate::fault::HostedFault;
 use crate::folder::InFolder;
@@ -45,8 +45,9 @@ const LONG: usize = 1_048_576;
 /// The words are those of `hosted_settings`. Then the secret is read first, then what there is of
 /// logins, and then messages.
 /// With `NAME FOLDER compact SERVERS` it compacts the journal of the folder, with this number in
-/// its head, and prints its length on the sink. With `export` instead it writes the lines that make
-/// the tree, and with `stat` the size of the folder.
+/// its head, and prints its length on the sink. With `beginning` instead it compacts all parts of the
+/// journal but the last one, to which a server may append. With `export` it writes the lines that
+/// make the tree, and with `stat` the size of the folder.
 pub fn hosted_command<R: Files<File = File> + Copy, S: Source, K: Sink, F: Sink>(
     alloc: Global,
     files: &R,
@@ -91,8 +92,7 @@ fn run<R: Files<File = File> + Copy, S: Source, K: Sink, F: Sink>(
         return Err(HostedFault::Words(WordsFault::BadWords));
     };
     if let Some((task, last)) = task_of(words) {
-        let device = found(alloc, files, folder)?;
-        do_task(alloc, device, task, last, sink, faults)?;
+        do_task(alloc, files, folder, task, last, sink, faults)?;
         return Ok(());
     }
     let asked = hosted_settings(words)?;
@@ -144,25 +144,38 @@ fn found<R: Files<File = File> + Copy>(
     Ok(FileDevice::open(alloc, files, folder, SyncMode::Batch)?)
 }
 
-// Does a task on a folder that no server has open.
+// Does a task on a folder.
 fn do_task<R: Files<File = File> + Copy, K: Sink, F: Sink>(
     alloc: Global,
-    device: FileDevice<R>,
+    files: &R,
+    folder: &str,
     task: Task,
     last: ServerId,
     sink: &mut K,
     faults: &mut F,
 ) -> Result<(), HostedFault>
-    requires durable { Only (seen_of device) (MayLeaveOf device) }
-    requires opened { IsOpened Batch device }
     ensures { OnOk result (HasDone R task last
         (sink_run K.took K.failed sink.old sink.new)) }
 {
-    let mut device = device;
     match task {
-        Task::Compact => compact(alloc, device, last, sink, faults)?,
-        Task::Export => export(alloc, &mut device, last, sink, faults)?,
-        Task::Stat => stat(alloc, &mut device, last, sink, faults)?,
+        Task::Compact => {
+            let device = found(alloc, files, folder)?;
+            compact(alloc, device, last, sink, faults)?;
+        }
+        Task::Beginning => {
+            match FileDevice::open_beginning(alloc, files, folder, SyncMode::Batch)? {
+                Some(device) => compact_beginning(alloc, device, last, sink)?,
+                None => {}
+            }
+        }
+        Task::Export => {
+            let mut device = found(alloc, files, folder)?;
+            export(alloc, &mut device, last, sink, faults)?;
+        }
+        Task::Stat => {
+            let mut device = found(alloc, files, folder)?;
+            stat(alloc, &mut device, last, sink, faults)?;
+        }
     }
     Ok(())
 }
@@ -248,6 +261,7 @@ fn in_folder<R: Files<File = File> + Copy, F: Sink>(
             let mut front = opened.kept;
             report_saved(alloc, front.device(), faults);
             write_anew(&mut front, faults)?;
+            front.device().share();
             if opened.had_passwords {
                 tell(faults, "zk: data: clients of before open new sessions");
             }

@@ -33,13 +33,13 @@ pub struct FolderSettings {
     pub mode: SyncMode,
     /// The number in the head of its journal.
     pub last: ServerId,
-    /// From this many bytes on the journal is compacted.
+    /// Once the journal has grown by this many bytes, a new part of it is begun.
     pub long: usize,
 }
 
 /// Reads `NAME - SHARED`, for a server in memory. Or reads
 /// `NAME FOLDER batch|never SERVERS JOURNAL SHARED`: also the number in the head of the folder's
-/// journal, and from how many MiB on it is compacted. Shared are the words
+/// journal, and by how many MiB it grows before a new part of it is begun. Shared are the words
 /// `TICK TIME WATCHES EACH NODES SESSIONS TIMEOUT BYTES PARTS`. The first two are the milliseconds
 /// of a tick, and the time. The next two say how many watches there may be, of all connections
 /// together and of each. Then come the limits of the tree, the bytes of a node's data, and the parts

@@ -12,4 +12,4 @@ mod incarnations;
 #[cfg(test)]
 mod renewals;
 #[cfg(test)]
-mod versions;
+mod sums;

@@ -25,7 +25,7 @@ use Rattle.zdurable.specs.Compaction.{IsOldOrTree}
 use Rattle.zdurable.specs.Incarnations.{FileKeeps}
 use Rattle.zdurable.specs.Opening.{IsFoundOrWithin, IsOpenedWithin}
 use Rattle.zdurable.specs.Restored.{clock_at, restored}
-use Rattle.zdurable.specs.DurableFront.{IsOpen, IsServing, KeepsTree, compacted_size}
+use Rattle.zdurable.specs.DurableFront.{IsOpen, IsServing, KeepsTree, measured_from}
 use Rattle.zdurable.specs.Faults.{disk_failed, put_fault, read_fault, IsLeftBy, IsOfReading, IsSuchFile, IsSuchFileWithin}
 use Rattle.zdurable.specs.support.Opening.{AreNext, IsFoundOr, IsOfLimits, IsOfRenewal, IsSuchOpening, SaysOther, measure_if}
 use Rattle.zsnapshots.specs.declared.folder.fault.ReadFault.{ReadFault}
@@ -65,7 +65,7 @@ module _ {D : Type 0} (seen : D → List ℕ) (may_leave : D → List ℕ → Ty
   -- it was opened with the file's tree, whether or not that had other limits
   pub opens : (now : List ℕ) → now ≡ file → (served : Tree) → served ≡ with_limits found limits
       → (is_other : Bool) → SaysOther is_other found limits → (batches : List (List ℕ)) → Represents servers batches now
-      → AreNext is_other served batches next → compacted_size kept ≡ measure_if is_other kept.journal
+      → AreNext is_other served batches next → measured_from kept ≡ measure_if is_other kept.journal
       → (is : IsOpenedWithin seen may_leave servers file limits kept) × (kept.front ≡ restored watches secret terms now_ms (with_limits is.found limits))
   opens now same served served_is false says batches stands are measured =
       let one = files_have_one_reading servers file read batches reads (subst (Represents servers batches) same stands) in

@@ -1,12 +1,14 @@
--- A journal that is shortened, chunk by chunk.
-use Rattle.std.proofs.Common.{◌≡◌, inl, inr, ⊎_elim, ◌∙◌, ℕ, ◌+◌, ◌<◌, ◌≤◌, ◌^◌, ◌-◌, List, [], ◌∷◌, ◌++◌, length}
-use Rattle.std.proofs.Common.{sym, ap, subst, arith, append_assoc, append-nil}
+-- A journal that is compacted: a new file is written beside the old one, chunk by chunk.
+use Rattle.std.proofs.Common.{◌≡◌, inl, inr, ⊎_elim, ◌∙◌, ℕ, ◌+◌, ◌<◌, ◌≤◌, ◌^◌, ◌-◌, List, [], ◌∷◌, ◌++◌, length, map}
+use Rattle.std.proofs.Common.{refl, sym, ap, subst, arith, append_assoc, append-nil}
+use Rattle.std.proofs.lemmas.List.{map_push}
+use Rattle.std.specs.declared.vec.Vec.{Vec}
+use Rattle.std.specs.declared.alloc.Global.{Global}
 use Rattle.ztree.specs.Tree.{Tree}
 use Rattle.zjournal.specs.Device.{LeavesOnly}
-use Rattle.zjournal.specs.declared.format.Format.{Format}
-use Rattle.zjournal.specs.Blocks.{blocks}
-use Rattle.zjournal.specs.Journal.{holdings, IsAtRest, Keeps, IsOpen, device_of, format_of}
-use Rattle.zjournal.specs.Renewal.{IsRenewing, IsInRenewal, IsOldOrNew, renewed_size_of}
+use Rattle.zjournal.specs.Blocks.{IsText, AreTexts, blocks}
+use Rattle.zjournal.specs.Journal.{holdings, IsAtRest, Keeps, IsOpen, device_of, start_of}
+use Rattle.zjournal.specs.Renewal.{IsRenewing, IsInRenewal, IsOldOrNew, renewed_size_of, renewed_start_of}
 use Rattle.zjournal.specs.Scan.{joined}
 use Rattle.zjournal.specs.declared.journal.Journal.{Journal}
 use Rattle.zjournal.proofs.Moments.{joined_runs, started, weaker}
@@ -20,6 +22,37 @@ use Rattle.zdurable.proofs.Serving.{joined-more}
 
 -- ---- chunks
 
+-- these are the chunks of a tree's text so far
+pub record AreChunks (tree : Tree) (text : CompactionView) (done : List (List ℕ)) : Type 0 where
+  pub same : text.tree ≡ tree
+  pub all : joined done ++ text_left text ≡ snapshot_text tree
+
+pub no_chunk : (tree : Tree) (text : CompactionView) → text ≡ record { tree = tree; written = 0 } → AreChunks tree text []
+no_chunk tree text is = record {
+  same = ap (λ (v : CompactionView). v.tree) is;
+  all = ap (λ (v : CompactionView). text_left v) is;
+}
+
+-- one more
+pub one_chunk : (tree : Tree) (old new : CompactionView) (done : List (List ℕ)) (chunk given : List ℕ)
+    → AreChunks tree old done → IsChunk old new chunk → given ≡ chunk → AreChunks tree new (done ++ given ∷ [])
+one_chunk tree old new done chunk given are is same = record {
+  same = ap (λ (v : CompactionView). v.tree) is.view ∙ are.same;
+  all =
+      ap (λ (t : List ℕ). t ++ text_left new) (joined-more done given)
+      ∙ append_assoc (joined done) given (text_left new)
+      ∙ ap (λ (t : List ℕ). joined done ++ t) (ap (λ (t : List ℕ). t ++ text_left new) same ∙ sym (chunks_join old new chunk is))
+      ∙ are.all;
+}
+
+-- and all of them
+module _ (tree : Tree) (text : CompactionView) (done : List (List ℕ)) (are : AreChunks tree text done) (all : IsAllWritten text) where
+  pub text_is : joined done ≡ snapshot_text tree
+  text_is = sym (append-nil (joined done)) ∙ ap (λ (t : List ℕ). joined done ++ t) (sym (nothing_left text all)) ∙ are.all
+
+  pub text_keeps : IsTextOf tree (joined done)
+  text_keeps = subst (IsTextOf tree) (sym text_is) (snapshots_keep tree (subst IsKeepable are.same all.keepable))
+
 -- a chunk makes what is left shorter
 pub chunk_shorter : (tree : Tree) (old new : CompactionView) (chunk : List ℕ) → old.tree ≡ tree → IsChunk old new chunk
     → length (row_records tree) - new.written < length (row_records tree) - old.written
@@ -27,6 +60,8 @@ chunk_shorter tree old new chunk same is =
     let count : new.written ≡ old.written + is.count = ap (λ (v : CompactionView). v.written) is.view in
     let all : length (row_records old.tree) ≡ length (row_records tree) = ap (λ (u : Tree). length (row_records u)) same in
     omega (arith, count, all, is.some, is.within)
+
+-- ---- what a crash leaves
 
 -- a file with the old batches stores the state, too
 pub keeps_tree : (servers : ℕ) (batches : List (List ℕ)) (tree : Tree) → IsTextOf tree (joined batches) → (file : List ℕ)
@@ -39,16 +74,30 @@ pub keeps_either : (servers : ℕ) (batches : List (List ℕ)) (before now : Tre
 keeps_either servers batches before now text file (inl keeps) = inl (batches, keeps, text)
 keeps_either servers batches before now text file (inr is) = inr is
 
+module _ {D : Type 0} (moment : D → ℕ) (left_since : D → ℕ → List ℕ → Type 0) (old new : D) (servers : ℕ) (batches : List (List ℕ))
+    (tree : Tree) where
+  -- the old file only
+  pub leaves_old : LeavesOnly moment left_since old new (Keeps servers batches) → LeavesOnly moment left_since old new (IsOldOrTree servers batches tree)
+  leaves_old run = weaker moment left_since old new (Keeps servers batches) (IsOldOrTree servers batches tree) run (λ file keeps. inl keeps)
+
+  -- the old file or the new one
+  pub leaves_new : (done : List (List ℕ)) → IsTextOf tree (joined done) → LeavesOnly moment left_since old new (IsOldOrNew servers batches done)
+      → LeavesOnly moment left_since old new (IsOldOrTree servers batches tree)
+  leaves_new done text run =
+      weaker moment left_since old new (IsOldOrNew servers batches done) (IsOldOrTree servers batches tree) run
+      (λ file keeps. ⊎_elim (λ was. inl was) (λ is. inr (done, is, text)) keeps)
+
 -- ---- the old file
 
 module _ {D : Type 0} (seen : D → List ℕ) (may_leave : D → List ℕ → Type 0) (moment : D → ℕ) (left_since : D → ℕ → List ℕ
-    → Type 0) (tree : Tree) (old : Journal D) (servers : ℕ) (batches : List (List ℕ)) (rest : IsAtRest seen may_leave servers batches old)
+    → Type 0) (old : Journal D) (servers : ℕ) (batches : List (List ℕ)) (rest : IsAtRest seen may_leave servers batches old)
     (now : (file : List ℕ) → left_since (device_of old) (moment (device_of old)) file → may_leave (device_of old) file) where
   -- nothing was asked of the device
   pub stays_keeping : LeavesOnly moment left_since (device_of old) (device_of old) (Keeps servers batches)
   stays_keeping =
       let keeps : Keeps servers batches (seen (device_of old)) = record {
-        format = format_of old;
+        start = start_of old;
+        is_sum = rest.place.is_sum;
         texts = rest.texts;
         end = 0
             ∷ [];
@@ -58,120 +107,113 @@ module _ {D : Type 0} (seen : D → List ℕ) (may_leave : D → List ℕ → Ty
       started moment left_since (device_of old) (Keeps servers batches) (λ file left. subst (Keeps servers batches)
       (sym (rest.durable file (now file left))) keeps)
 
-  pub stays_old : LeavesOnly moment left_since (device_of old) (device_of old) (IsOldOrTree servers batches tree)
-  stays_old = weaker moment left_since (device_of old) (device_of old) (Keeps servers batches) (IsOldOrTree servers batches tree)
-      stays_keeping (λ file keeps. inl keeps)
+  pub stays_old : (tree : Tree) → LeavesOnly moment left_since (device_of old) (device_of old) (IsOldOrTree servers batches tree)
+  stays_old tree = leaves_old moment left_since (device_of old) (device_of old) servers batches tree stays_keeping
 
 -- ---- the new file
 
 module _ {D : Type 0} (seen : D → List ℕ) (may_leave : D → List ℕ → Type 0) (beside : D → List ℕ) (moment : D
     → ℕ) (left_since : D → ℕ → List ℕ → Type 0) where
-  -- so far the new file has the chunks that were handed out, and the old one is what it was
-  pub record IsGoing (tree : Tree) (old now : Journal D) (text : CompactionView) : Type 0 where
-    pub same : text.tree ≡ tree
+  -- so far the new file has these batches after this sum, and the old one is what it was
+  pub record IsWriting (start : ℕ) (old now : Journal D) (done : List (List ℕ)) : Type 0 where
     pub was_open : IsOpen old
     pub is_open : IsOpen now
     pub renewing : IsInRenewal seen may_leave beside now
+    pub from : renewed_start_of now ≡ start
     pub so_far : (servers : ℕ) (batches : List (List ℕ)) → IsAtRest seen may_leave servers batches old
-        → (next : List (List ℕ)) × IsRenewing seen may_leave beside servers batches next now × (joined next ++ text_left text ≡ snapshot_text tree)
+        → IsRenewing seen may_leave beside servers batches done now
     pub leaves : (servers : ℕ) (batches : List (List ℕ)) → IsAtRest seen may_leave servers batches old
         → LeavesOnly moment left_since (device_of old) (device_of now) (Keeps servers batches)
 
-  module _ (tree : Tree) (old now : Journal D) (text : CompactionView) (going : IsGoing tree old now text)
-      (servers : ℕ) (batches : List (List ℕ)) (rest : IsAtRest seen may_leave servers batches old) where
-    -- the file that is at rest now
-    pub rest_now : IsAtRest seen may_leave servers batches now
-    rest_now = (going.so_far servers batches rest).1.rest
+  module _ (start : ℕ) (old now : Journal D) (done : List (List ℕ)) (writing : IsWriting start old now done) where
+    module _ (servers : ℕ) (batches : List (List ℕ)) (rest : IsAtRest seen may_leave servers batches old) where
+      -- a run that continues over the old file
+      pub keeps_more : (new : Journal D)
+          → ((servers : ℕ) (batches : List (List ℕ)) → IsAtRest seen may_leave servers batches now
+          → LeavesOnly moment left_since (device_of now) (device_of new) (Keeps servers batches))
+          → LeavesOnly moment left_since (device_of old) (device_of new) (Keeps servers batches)
+      keeps_more new run =
+          joined_runs moment left_since (device_of old) (device_of now) (device_of new) (Keeps servers batches)
+          (writing.leaves servers batches rest) (run servers batches (writing.so_far servers batches rest).rest)
 
-    -- a run that ends here
-    pub leaves_old : LeavesOnly moment left_since (device_of old) (device_of now) (IsOldOrTree servers batches tree)
-    leaves_old = weaker moment left_since (device_of old) (device_of now) (Keeps servers batches) (IsOldOrTree servers batches tree)
-        (going.leaves servers batches rest) (λ file keeps. inl keeps)
+      -- one that ends here
+      pub ends_here : (tree : Tree) → LeavesOnly moment left_since (device_of old) (device_of now) (IsOldOrTree servers batches tree)
+      ends_here tree = leaves_old moment left_since (device_of old) (device_of now) servers batches tree (writing.leaves servers batches rest)
 
-    -- one that continues over the old file
-    pub keeps_more : (new : Journal D) → LeavesOnly moment left_since (device_of now) (device_of new) (Keeps servers batches)
-        → LeavesOnly moment left_since (device_of old) (device_of new) (Keeps servers batches)
-    keeps_more new run =
-        joined_runs moment left_since (device_of old) (device_of now) (device_of new) (Keeps servers batches)
-        (going.leaves servers batches rest) run
-
-    pub leaves_more : (new : Journal D) → LeavesOnly moment left_since (device_of now) (device_of new) (Keeps servers batches)
-        → LeavesOnly moment left_since (device_of old) (device_of new) (IsOldOrTree servers batches tree)
-    leaves_more new run =
-        weaker moment left_since (device_of old) (device_of new) (Keeps servers batches) (IsOldOrTree servers batches tree)
-        (keeps_more new run) (λ file keeps. inl keeps)
-
-    -- the new file is full before its end
-    pub too_long : 2 ^ 60 ≤ renewed_size_of now → IsTooLong servers tree
-    too_long full =
-        let so_far = going.so_far servers batches rest in (
-          so_far.0,
-          text_left text,
-          sym so_far.2,
-          subst (λ (n : ℕ). 2 ^ 60 ≤ n)
-              (so_far.1.place.end ∙ ap (λ (f : Format). length (blocks (holdings f servers so_far.0))) so_far.1.format) full,
-        )
-
-    -- and the end
-    module _ (all : IsAllWritten text) where
-      pub text_is : joined (going.so_far servers batches rest).0 ≡ snapshot_text tree
-      text_is =
-          let so_far = going.so_far servers batches rest in
-          sym (append-nil (joined so_far.0)) ∙ ap (λ (t : List ℕ). joined so_far.0 ++ t) (sym (nothing_left text all)) ∙ so_far.2
-
-      pub text_keeps : IsTextOf tree (joined (going.so_far servers batches rest).0)
-      text_keeps = subst (IsTextOf tree) (sym text_is) (snapshots_keep tree (subst IsKeepable going.same all.keepable))
-
-      pub leaves_new : (new : Journal D)
-          → LeavesOnly moment left_since (device_of now) (device_of new) (IsOldOrNew servers batches (going.so_far servers batches rest).0)
+      -- and one at whose end the new file replaces the old one
+      pub replaces : (tree : Tree) → IsTextOf tree (joined done) → (new : Journal D)
+          → ((servers : ℕ) (batches next : List (List ℕ)) → IsRenewing seen may_leave beside servers batches next now
+          → LeavesOnly moment left_since (device_of now) (device_of new) (IsOldOrNew servers batches next))
           → LeavesOnly moment left_since (device_of old) (device_of new) (IsOldOrTree servers batches tree)
-      leaves_new new run =
-          joined_runs moment left_since (device_of old) (device_of now) (device_of new) (IsOldOrTree servers batches tree) leaves_old
-          (weaker moment left_since (device_of now) (device_of new) (IsOldOrNew servers batches (going.so_far servers batches rest).0)
-          (IsOldOrTree servers batches tree)
-          run (λ file keeps. ⊎_elim (λ was. inl was) (λ is. inr ((going.so_far servers batches rest).0, is, text_keeps)) keeps))
+      replaces tree text new run =
+          joined_runs moment left_since (device_of old) (device_of now) (device_of new) (IsOldOrTree servers batches tree) (ends_here tree)
+          (leaves_new moment left_since (device_of now) (device_of new) servers batches tree done text
+          (run servers batches done (writing.so_far servers batches rest)))
+
+    -- one batch more
+    pub goes_on : (new : Journal D) (given : List ℕ) → IsOpen new → IsInRenewal seen may_leave beside new
+        → renewed_start_of new ≡ renewed_start_of now
+        → ((servers : ℕ) (batches next : List (List ℕ)) → IsOpen now → IsRenewing seen may_leave beside servers batches next now
+        → IsRenewing seen may_leave beside servers batches (next ++ given ∷ []) new)
+        → ((servers : ℕ) (batches : List (List ℕ)) → IsAtRest seen may_leave servers batches now
+        → LeavesOnly moment left_since (device_of now) (device_of new) (Keeps servers batches))
+        → IsWriting start old new (done ++ given ∷ [])
+    goes_on new given is_open renewing same adds leaves = record {
+      was_open = writing.was_open;
+      is_open = is_open;
+      renewing = renewing;
+      from = same ∙ writing.from;
+      so_far = λ servers batches rest. adds servers batches done writing.is_open (writing.so_far servers batches rest);
+      leaves = λ servers batches rest. keeps_more servers batches rest new leaves;
+    }
 
   -- the beginning
-  pub begun : (tree : Tree) (old new : Journal D) (text : CompactionView) → text ≡ record { tree = tree; written = 0 }
-      → IsOpen old → IsOpen new → IsInRenewal seen may_leave beside new
+  pub begun : (start : ℕ) (old new : Journal D) → IsOpen old → IsOpen new → IsInRenewal seen may_leave beside new
+      → renewed_start_of new ≡ start
       → ((servers : ℕ) (batches : List (List ℕ)) → IsOpen old → IsAtRest seen may_leave servers batches old
       → IsRenewing seen may_leave beside servers batches [] new)
       → ((servers : ℕ) (batches : List (List ℕ)) → IsAtRest seen may_leave servers batches old
       → LeavesOnly moment left_since (device_of old) (device_of new) (Keeps servers batches))
-      → IsGoing tree old new text
-  begun tree old new text is was_open is_open renewing begins leaves = record {
-    same = ap (λ (v : CompactionView). v.tree) is;
+      → IsWriting start old new []
+  begun start old new was_open is_open renewing from begins leaves = record {
     was_open = was_open;
     is_open = is_open;
     renewing = renewing;
-    so_far = λ servers batches rest. ([], begins servers batches was_open rest, ap (λ (v : CompactionView). text_left v) is);
+    from = from;
+    so_far = λ servers batches rest. begins servers batches was_open rest;
     leaves = leaves;
   }
 
-  -- one chunk more
-  pub goes_on : (tree : Tree) (old now new : Journal D) (before text : CompactionView) (chunk given : List ℕ)
-      → IsGoing tree old now before → IsChunk before text chunk → given ≡ chunk
-      → IsOpen new → IsInRenewal seen may_leave beside new
-      → ((servers : ℕ) (batches next : List (List ℕ)) → IsOpen now → IsRenewing seen may_leave beside servers batches next now
-      → IsRenewing seen may_leave beside servers batches (next ++ given ∷ []) new)
-      → ((servers : ℕ) (batches : List (List ℕ)) → IsAtRest seen may_leave servers batches now
-      → LeavesOnly moment left_since (device_of now) (device_of new) (Keeps servers batches))
-      → IsGoing tree old new text
-  goes_on tree old now new before text chunk given going is same is_open renewing adds leaves = record {
-    same = ap (λ (v : CompactionView). v.tree) is.view ∙ going.same;
-    was_open = going.was_open;
-    is_open = is_open;
-    renewing = renewing;
-    so_far = λ servers batches rest.
-        let so_far = going.so_far servers batches rest in (
-          so_far.0 ++ given ∷ [],
-          adds servers batches so_far.0 going.is_open so_far.1,
-          ap (λ (t : List ℕ). t ++ text_left text) (joined-more so_far.0 given)
-              ∙ append_assoc (joined so_far.0) given (text_left text)
-              ∙ ap (λ (t : List ℕ). joined so_far.0 ++ t) (ap (λ (t : List ℕ). t ++ text_left text) same ∙ sym (chunks_join before text chunk is))
-              ∙ so_far.2,
-        );
-    leaves = λ servers batches rest.
-        joined_runs moment left_since (device_of old) (device_of now) (device_of new) (Keeps servers batches) (going.leaves servers batches rest)
-        (leaves servers batches (going.so_far servers batches rest).1.rest);
-  }
+  -- the new file is full before its end
+  pub too_long : (tree : Tree) (old now : Journal D) (text : CompactionView) (done : List (List ℕ)) → IsWriting 1 old now done
+      → AreChunks tree text done → (servers : ℕ) (batches : List (List ℕ)) → IsAtRest seen may_leave servers batches old
+      → 2 ^ 60 ≤ renewed_size_of now → IsTooLong servers tree
+  too_long tree old now text done writing are servers batches rest full = (
+    done,
+    text_left text,
+    sym are.all,
+    subst (λ (n : ℕ). 2 ^ 60 ≤ n)
+        ((writing.so_far servers batches rest).place.end ∙ ap (λ (start : ℕ). length (blocks (holdings start servers done))) writing.from) full,
+  )
+
+-- ---- chunks in memory
+
+abbrev pub texts_in : List (Vec ℕ Global) → List (List ℕ)
+texts_in chunks = map (λ (chunk : Vec ℕ Global). chunk.items) chunks
+
+-- one more is added
+module _ (chunks next : List (Vec ℕ Global)) (chunk : Vec ℕ Global) (is : next ≡ chunks ++ chunk ∷ []) where
+  added : texts_in next ≡ texts_in chunks ++ chunk.items ∷ []
+  added = ap texts_in is ∙ map_push (λ (v : Vec ℕ Global). v.items) chunks chunk
+
+  pub chunk_added : (tree : Tree) (old new : CompactionView) → AreChunks tree old (texts_in chunks) → IsChunk old new chunk.items
+      → AreChunks tree new (texts_in next)
+  chunk_added tree old new are is_chunk =
+      subst (AreChunks tree new) (sym added) (one_chunk tree old new (texts_in chunks) chunk.items chunk.items are is_chunk refl)
+
+  pub text_added : AreTexts (texts_in chunks) → IsText chunk.items → AreTexts (texts_in next)
+  text_added are text = subst AreTexts (sym added) (push (texts_in chunks) are)
+    where
+      push : (texts : List (List ℕ)) → AreTexts texts → AreTexts (texts ++ chunk.items ∷ [])
+      push [] are = (text, tt)
+      push (t ∷ texts) are = (are.0, push texts are.1)

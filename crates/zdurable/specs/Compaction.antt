@@ -1,18 +1,15 @@
--- How a journal is compacted: a file with the text of its tree replaces the old one. If the disk
--- fails before that file is written, the compaction is postponed.
-use Rattle.std.specs.Prelude.{◌≡◌, ◌⊎◌, ◌≤◌, ◌^◌, ◌/◌, ℕ, List, ◌++◌, length}
+-- How a journal is compacted: a file with the text of its tree replaces the old one. And how the parts
+-- before its last one are: what the last part holds continues from either.
+use Rattle.std.specs.Prelude.{◌≡◌, ◌⊎◌, ◌≤◌, ◌^◌, ◌/◌, ◌-◌, ℕ, Bool, true, false, List, ◌++◌, length, take}
 use Rattle.ztree.specs.Tree.{Tree}
-use Rattle.zjournal.specs.declared.format.Format.TheVariants.{Running}
 use Rattle.zjournal.specs.declared.journal.Journal.{Journal}
-use Rattle.zjournal.specs.Blocks.{blocks}
+use Rattle.zjournal.specs.Blocks.{AreTexts, IsEnd, at_rest, blocks}
+use Rattle.zjournal.specs.Checksum.{IsSum, stamped_all, sum_after_all}
 use Rattle.zjournal.specs.Journal.{IsAtRest, Keeps, holdings}
 use Rattle.zjournal.specs.Scan.{joined}
-use Rattle.zfront.specs.Front.{FrontView}
-use Rattle.zfront.specs.Restoring.{all_taken}
+use Rattle.zsnapshots.specs.folder.Entries.{AreEntries, Entry, entries_text}
 use Rattle.zsnapshots.specs.folder.States.{after}
 use Rattle.zsnapshots.specs.folder.Texts.{snapshot_text, IsTextOf}
-use Rattle.zdurable.specs.declared.compacted.Compacted.{Compacted}
-use Rattle.zdurable.specs.declared.compacted.Compacted.TheVariants.{Replaced, Postponed}
 use Rattle.zdurable.specs.declared.kept.DurableFront.{DurableFront}
 use Rattle.zdurable.specs.DurableFront.{made_in, IsServing, KeepsTree}
 
@@ -27,27 +24,54 @@ KeepsEither servers before now file = KeepsTree servers before file ⊎ KeepsTre
 -- the new file would be too long: the blocks of the first chunks of its text have 2 ^ 60 bytes
 abbrev pub IsTooLong : ℕ → Tree → Type 0
 IsTooLong servers t = (chunks : List (List ℕ)) × (more : List ℕ) × (snapshot_text t ≡ joined chunks ++ more)
-    × (2 ^ 60 ≤ length (blocks (holdings Running servers chunks)))
+    × (2 ^ 60 ≤ length (blocks (holdings 1 servers chunks)))
 
--- the journal afterwards: it is at rest with the text of the tree, or with the batches of before
-abbrev pub RestsAfter : {D : Type 0} → (D → List ℕ) → (D → List ℕ → Type 0) → Compacted → ℕ → List (List ℕ) → Tree → Journal D → Type 0
-RestsAfter seen may_leave Replaced servers batches t journal =
+-- the journal afterwards: it is at rest with the text of the tree
+abbrev pub RestsAfter : {D : Type 0} → (D → List ℕ) → (D → List ℕ → Type 0) → ℕ → Tree → Journal D → Type 0
+RestsAfter seen may_leave servers t journal =
     (next : List (List ℕ)) × IsAtRest seen may_leave servers next journal × (joined next ≡ snapshot_text t) × IsTextOf t (joined next)
-RestsAfter seen may_leave Postponed servers batches t journal = IsAtRest seen may_leave servers batches journal
 
--- the service afterwards: its file has the text of the current tree, or the batches of before
-abbrev pub ServesAfter : {D : Type 0} → (D → List ℕ) → (D → List ℕ → Type 0) → Compacted → ℕ → List (List ℕ) → Tree → DurableFront D → DurableFront D → Type 0
-ServesAfter seen may_leave Replaced servers batches t old new =
+-- the service afterwards: its file has the text of the current tree
+abbrev pub ServesAfter : {D : Type 0} → (D → List ℕ) → (D → List ℕ → Type 0) → ℕ → Tree → DurableFront D → DurableFront D → Type 0
+ServesAfter seen may_leave servers t old new =
     (next : List (List ℕ)) × IsServing seen may_leave servers next (after t (made_in old)) new × (joined next ≡ snapshot_text (after t (made_in old)))
-ServesAfter seen may_leave Postponed servers batches t old new = IsServing seen may_leave servers batches t new
 
--- its front end: nothing is left to commit, or it is unchanged
-abbrev pub front_after : Compacted → FrontView → FrontView
-front_after Replaced v = all_taken v
-front_after Postponed v = v
+-- its growth, once a new part was to be begun: none, or half of it if it couldn't be begun
+abbrev pub growth_after : Bool → ℕ → ℕ
+growth_after true growth = 0
+growth_after false growth = growth / 2
 
--- the measure of its last compaction: the bytes of the new file, or half of those of the old one. So
--- one that was postponed is tried again once the file is twice as long
-abbrev pub measure_after : Compacted → ℕ → ℕ
-measure_after Replaced size = size
-measure_after Postponed size = size / 2
+-- ---- parts
+
+-- A file at rest, whose last byte, the clear commit byte, is the first one of the part after it: this
+-- is the content of both.
+abbrev pub continued_by : List ℕ → List ℕ → List ℕ
+continued_by file part = take (length file - 1) file ++ part
+
+-- One file at rest can take the place of another, whatever follows it: both hold this tree, and the
+-- checksum after their batches continues from the same sum.
+pub record MayReplace (servers : ℕ) (t : Tree) (old new : List ℕ) : Type 0 where
+  pub before : List (List ℕ)
+  pub next : List (List ℕ)
+  pub old_start : ℕ
+  pub new_start : ℕ
+  pub old_is_sum : IsSum old_start
+  pub new_is_sum : IsSum new_start
+  pub old_rests : old ≡ at_rest (holdings old_start servers before)
+  pub new_rests : new ≡ at_rest (holdings new_start servers next)
+  pub new_texts : AreTexts (holdings new_start servers next)
+  pub old_texts : AreTexts (holdings old_start servers before)
+  pub old_text : IsTextOf t (joined before)
+  pub new_text : IsTextOf t (joined next)
+  pub same_sum : sum_after_all old_start before ≡ sum_after_all new_start next
+
+-- The last part: blocks of these entries, of which the first checksum continues from this sum, and
+-- what a crash left after them.
+pub record IsLastPart (sum : ℕ) (entries : List Entry) (part : List ℕ) : Type 0 where
+  pub batches : List (List ℕ)
+  pub are : AreEntries entries
+  pub text : joined batches ≡ entries_text entries
+  pub texts : AreTexts (stamped_all sum batches)
+  pub end : List ℕ
+  pub split : part ≡ blocks (stamped_all sum batches) ++ end
+  pub counts_for_nothing : IsEnd end

@@ -1,6 +1,8 @@
 -- A front end whose changes are made durable in a journal.
-use Rattle.std.specs.Prelude.{◌≡◌, ◌==◌, ◌&&◌, ◌/◌, nat_le, ℕ, Bool, true, false, List, [], ◌∷◌, ◌++◌, length, Option, None, if◌then◌else◌}
+use Rattle.std.specs.Prelude.{◌≡◌, ◌==◌, ◌&&◌, ◌/◌, ◌-◌, nat_le, ℕ, Bool, true, false, List, [], ◌∷◌, ◌++◌, length, Option, None, if◌then◌else◌}
+use Rattle.std.specs.FinMap as finite
 use Rattle.ztree.specs.Tree.{Tree}
+use Rattle.ztree.specs.Counts.{data_count}
 use Rattle.zjournal.specs.Journal.{IsAtRest, Keeps, device_of, size_of}
 use Rattle.zjournal.specs.Journal as journal
 use Rattle.zjournal.specs.Scan.{joined}
@@ -47,14 +49,22 @@ abbrev pub more_if : List Entry → List (List ℕ) → List (List ℕ)
 more_if [] batches = batches
 more_if (entry ∷ made) batches = batches ++ entries_text (entry ∷ made) ∷ []
 
--- the bytes of the journal after its last compaction since the service was opened, or 0; half of its
--- bytes at a later one that was postponed
-abbrev pub compacted_size : {D : Type 0} → DurableFront D → ℕ
-compacted_size kept = kept.shortened
+-- from where the growth of the journal is measured: where its last part was begun, or the end of the
+-- file that replaced another; 0 before that. If a part couldn't be begun, halfway from there
+abbrev pub measured_from : {D : Type 0} → DurableFront D → ℕ
+measured_from kept = kept.measured
 
--- the journal is to be compacted: it has this many bytes, and four times that measure
+abbrev pub growth_of : {D : Type 0} → DurableFront D → ℕ
+growth_of kept = size_of kept.journal - measured_from kept
+
+-- a new part is to be begun: the journal has grown by this many bytes, by four times those of the
+-- tree's data, and by 512 for each node
+abbrev pub has_grown : ℕ → ℕ → ℕ → ℕ → Bool
+has_grown least bytes nodes growth = nat_le least growth && nat_le bytes (growth / 4) && nat_le nodes (growth / 512)
+
 abbrev pub is_long : {D : Type 0} → ℕ → DurableFront D → Bool
-is_long least kept = nat_le least (size_of kept.journal) && nat_le (compacted_size kept) (size_of kept.journal / 4)
+is_long least kept =
+    let nodes = (front_in kept).tree.nodes in has_grown least (data_count nodes) (finite.len nodes) (growth_of kept)
 
 -- the file holds batches whose text is this tree's
 abbrev pub KeepsTree : ℕ → Tree → List ℕ → Type 0

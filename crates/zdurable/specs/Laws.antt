@@ -6,6 +6,8 @@ use Rattle.zsnapshots.specs.folder.Entries.{Entry}
 use Rattle.zsnapshots.specs.folder.States.{after}
 use Rattle.zfront.specs.Front.{FrontView}
 use Rattle.zfront_laws.specs.Making.{updates_in}
+use Rattle.zjournal.specs.Checksum.{sum_after_all}
+use Rattle.zdurable.specs.Compaction.{IsLastPart, MayReplace, continued_by}
 use Rattle.zdurable.specs.Making.{HasKept, kept_since, log_since}
 use Rattle.zdurable.specs.Incarnations.{Incarnation, FileKeeps, AreIncarnations, IsWoven, Part, PartsLead, ArePartsOf, AreWithin}
 
@@ -46,3 +48,11 @@ EachIncarnationIsAPart =
 -- a new file holds the initial tree of the profile
 abbrev pub NewFilesKeepTheOpening : Type 0
 NewFilesKeepTheOpening = (servers : ℕ) → FileKeeps servers opening_tree []
+
+-- A compaction of all parts but the last one changes nothing. Whatever blocks of entries the last part
+-- has, before the compaction and after it the parts hold the tree that these entries leave.
+abbrev pub CompactedPartsContinue : Type 0
+CompactedPartsContinue =
+    (servers : ℕ) (t : Tree) (old new : List ℕ) (may : MayReplace servers t old new) (entries : List Entry) (part : List ℕ)
+    → IsLastPart (sum_after_all may.old_start may.before) entries part
+    → FileKeeps servers (after t entries) (continued_by old part) × FileKeeps servers (after t entries) (continued_by new part)

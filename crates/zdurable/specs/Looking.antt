@@ -2,7 +2,6 @@
 use Rattle.std.specs.Prelude.{◌≡◌, ℕ, Bool, List, length}
 use Rattle.ztree.specs.Tree.{Tree}
 use Rattle.zjournal.specs.Blocks.{blocks}
-use Rattle.zjournal.specs.declared.format.Format.{Format}
 use Rattle.zjournal.specs.Journal.{Represents, holdings}
 use Rattle.zjournal.specs.Scan.{joined}
 use Rattle.zsnapshots.specs.folder.Entries.{ReportsPasswords}
@@ -17,10 +16,10 @@ pub record IsLook (servers : ℕ) (file : List ℕ) (t : Tree) (snapshot : ℕ) 
   pub text : IsTextOf t (joined batches)
   pub begins : snapshot ≡ length text.front
 
--- the last block that counts ends at this index, which is the same in both formats
+-- the last block that counts ends at this index, which is the same after each sum of a head
 abbrev pub EndsThere : ℕ → List ℕ → ℕ → Type 0
 EndsThere servers file end =
-    (batches : List (List ℕ)) × Represents servers batches file × ((format : Format) → end ≡ length (blocks (holdings format servers batches)))
+    (batches : List (List ℕ)) × Represents servers batches file × ((start : ℕ) → end ≡ length (blocks (holdings start servers batches)))
 
 -- the flag says whether passwords of sessions are among the records of the file
 abbrev pub ReportsOfPasswords : ℕ → List ℕ → Bool → Type 0

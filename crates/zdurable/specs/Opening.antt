@@ -7,16 +7,16 @@ use Rattle.zjournal.specs.Journal.{Represents, size_of}
 use Rattle.zjournal.specs.Scan.{joined}
 use Rattle.zsnapshots.specs.folder.Texts.{snapshot_text, IsTextOf}
 use Rattle.zdurable.specs.declared.kept.DurableFront.{DurableFront}
-use Rattle.zdurable.specs.DurableFront.{IsServing, KeepsTree, compacted_size}
+use Rattle.zdurable.specs.DurableFront.{IsServing, KeepsTree, measured_from}
 
 -- What the file of a service then has, where it had this tree and these batches. If that tree has
 -- the chosen limits, the batches are those of before. Else a compaction wrote the tree within the
 -- chosen limits, and it fits within them.
 abbrev pub IsWrittenWithin : {D : Type 0} → TreeLimits → Tree → List (List ℕ) → List (List ℕ) → DurableFront D → Type 0
 IsWrittenWithin limits found batches next kept =
-    ((found.limits ≡ limits) × (next ≡ batches) × (compacted_size kept ≡ 0))
+    ((found.limits ≡ limits) × (next ≡ batches) × (measured_from kept ≡ 0))
     ⊎ ((found.limits ≢ limits) × FitsWithin found limits × (joined next ≡ snapshot_text (with_limits found limits))
-    × (compacted_size kept ≡ size_of kept.journal))
+    × (measured_from kept ≡ size_of kept.journal))
 
 -- a service was opened: its tree is that of the file, with the chosen limits
 pub record IsOpenedWithin {D : Type 0} (seen : D → List ℕ) (may_leave : D → List ℕ → Type 0) (servers : ℕ) (file : List ℕ) (limits : TreeLimits) (kept : DurableFront D) : Type 0 where

@@ -19,7 +19,7 @@ ghost use Rattle.zstore.specs.Restored.{with_limits};
 ghost use Rattle.zdurable.specs.Faults.{disk_failed, IsFull, IsLeftBy, IsOfReading};
 ghost use Rattle.zdurable.specs.Faults.{IsSuchFileWithin};
 ghost use Rattle.zdurable.specs.Opening.{IsFoundOrWithin, IsOpenedWithin};
-ghost use Rattle.zdurable.specs.DurableFront.{disk_of, front_in, made_in, more_if, compacted_size};
+ghost use Rattle.zdurable.specs.DurableFront.{disk_of, front_in, made_in, more_if, measured_from};
 ghost use Rattle.zdurable.specs.DurableFront.{IsOpen, IsServing, IsSound};
 ghost use Rattle.zdurable.specs.Looking.{ReportsOfPasswords};
 ghost use Rattle.zdurable.specs.Restored.{restored};
@@ -49,9 +49,8 @@ pub struct DurableFront<D: Device> {
     pub(crate) alloc: Global,
     pub(crate) front: Front<LocalTree>,
     pub(crate) journal: Journal<D>,
-    // The bytes of the file after its last compaction, or 0 if there was none. Half of its bytes at
-    // a later one that was postponed.
-    pub(crate) shortened: usize,
+    // From where the growth of the journal is measured.
+    pub(crate) measured: usize,
     pub(crate) is_open: bool,
 }
 
@@ -116,13 +115,13 @@ impl<D: Device> DurableFront<D> {
         };
         match open_within(alloc, device, servers, front.service(), is_other) {
             Ok(journal) => {
-                let shortened = measure_if(is_other, &journal);
+                let measured = measure_if(is_other, &journal);
                 Ok(Opened {
                     kept: DurableFront {
                         alloc,
                         front,
                         journal,
-                        shortened,
+                        measured,
                         is_open: true,
                     },
                     had_passwords,
@@ -152,7 +151,7 @@ impl<D: Device> DurableFront<D> {
             → OnOk result (IsServing D.seen D.may_leave servers
             (more_if (made_in self.old) batches) (after t (made_in self.old)) self.new) }
         ensures taken { OnOk result (front_in self.new ≡ all_taken (front_in self.old)) }
-        ensures measured { compacted_size self.new ≡ compacted_size self.old }
+        ensures measured { measured_from self.new ≡ measured_from self.old }
         ensures nothing { made_in self.old ≡ [] → IsOpen self.old
             → IsOk result × (self.new ≡ self.old) }
         ensures any_moment { (servers : ℕ) (batches : List (List ℕ)) (t : Tree)

@@ -1,6 +1,7 @@
 //! What holds across all incarnations of a service. Each function's contract is a law.
 
-ghost use Rattle.zdurable.specs.Laws.{EachIncarnationIsAPart, IncarnationsAreOneTree};
+ghost use Rattle.zdurable.specs.Laws.{CompactedPartsContinue, EachIncarnationIsAPart};
+ghost use Rattle.zdurable.specs.Laws.{IncarnationsAreOneTree};
 ghost use Rattle.zdurable.specs.Laws.{NewFilesKeepTheOpening, WhatIsKeptStandsInALog};
 
 /// All calls of a front end form one log, whose replies are those of one plain tree. Its updates
@@ -26,4 +27,10 @@ pub fn each_incarnation_is_a_part()
 /// A new file holds the initial tree of the profile: so both may begin there.
 pub fn new_files_keep_the_opening()
     ensures { NewFilesKeepTheOpening }
+{}
+
+/// A process beside the service may compact all parts of the file but the last one: the file holds
+/// the same tree, whatever the service appends meanwhile and later.
+pub fn compacted_parts_continue()
+    ensures { CompactedPartsContinue }
 {}

@@ -1,8 +1,11 @@
 //! A server for ZooKeeper's clients whose changes are durable. Changes of a front end are written
 //! as one block of a file, and only then acknowledged. A service that is opened again begins with
-//! the tree that its file holds. `compact` compacts a file: it replaces one that has become long
-//! with a snapshot alone. If the disk has no room for that one, the service continues with the old
-//! one.
+//! the tree that its file holds.
+//!
+//! A file has parts, of which the last one grows. A service whose file has become long begins a new
+//! part (`split`). Another process then replaces the parts before it with a snapshot alone
+//! (`Stored::compact_beginning`). The file holds the same tree before and after, whatever the
+//! service has appended meanwhile (`laws`).
 //!
 //! The limits of the tree are chosen at each opening. Where the file has others, it is compacted
 //! before the service begins, with the chosen ones.
@@ -25,8 +28,8 @@
 //! request in flight opens a new connection after a crash anyway.
 #![tactic(auto)]
 
+mod beginning;
 mod chunks;
-mod compacted;
 mod compaction;
 mod fault;
 mod inputs;
@@ -40,7 +43,6 @@ mod stored;
 mod within;
 mod writing;
 
-pub use compacted::Compacted;
 pub use fault::{DurableFault, OpenFault};
 pub use kept::DurableFront;
 pub use looking::{Looked, folder_stat, look};

@@ -1,12 +1,13 @@
 //! Worked examples: each function's contract has some, and its body is empty.
 
-ghost use Rattle.std.specs.Prelude.{◌≡◌, [], ◌∷◌, ◌++◌, List, ℕ};
+ghost use Rattle.std.specs.Prelude.{◌≡◌, [], ◌∷◌, ◌++◌, List, ℕ, true, false};
 ghost use Rattle.zcalls.specs.declared.call.Call.{Call};
 ghost use Rattle.zcalls.specs.declared.call.Call.TheVariants as call;
 ghost use Rattle.zcalls.specs.declared.call.Update.TheVariants.{Tick};
 ghost use Rattle.zcalls.specs.declared.reply.Reply.{Reply};
 ghost use Rattle.zsnapshots.specs.folder.Entries.{entries_text};
-ghost use Rattle.zdurable.specs.DurableFront.{more_if};
+ghost use Rattle.zdurable.specs.Compaction.{continued_by, growth_after};
+ghost use Rattle.zdurable.specs.DurableFront.{has_grown, more_if};
 ghost use Rattle.ztree.specs.Tree.{opening_tree, opening_within};
 ghost use Rattle.zrequests.specs.Terms.{profile};
 ghost use Rattle.zdurable.specs.Incarnations.{IsWoven, PartsLead};
@@ -28,6 +29,23 @@ pub fn nothing_is_no_block()
     ensures nothing { (batches : List (List ℕ)) → more_if [] batches ≡ batches }
     ensures one { (batches : List (List ℕ)) → more_if (Tick ∷ (Tick ∷ [])) batches
         ≡ batches ++ entries_text (Tick ∷ (Tick ∷ [])) ∷ [] }
+{}
+
+/// When a new part is begun: with least growth, with much data, and with many nodes. And what is left
+/// of the growth afterwards.
+pub fn parts_are_begun()
+    ensures least { has_grown 4096 1024 8 4096 ≡ true }
+    ensures less { has_grown 4097 1024 8 4096 ≡ false }
+    ensures data { has_grown 4096 1025 8 4096 ≡ false }
+    ensures nodes { has_grown 4096 1024 9 4096 ≡ false }
+    ensures begun { growth_after true 4096 ≡ 0 }
+    ensures not_begun { growth_after false 4096 ≡ 2048 }
+{}
+
+/// The last byte of a file at rest is the first one of the part after it.
+pub fn parts_are_joined()
+    ensures { continued_by (1 ∷ 97 ∷ 0 ∷ 0 ∷ []) (1 ∷ 98 ∷ 0 ∷ 0 ∷ [])
+        ≡ 1 ∷ 97 ∷ 0 ∷ 1 ∷ 98 ∷ 0 ∷ 0 ∷ [] }
 {}
 
 /// What may be in a log after some incarnations: an acknowledged call is there once. A change in

@@ -1,15 +1,17 @@
-//! A file that no service has open, and its tree: so its journal is compacted.
+//! A file that no service has open, and its tree: so its journal is compacted. Or all parts of a file
+//! but the last one, to which a service may append.
 
 ghost use Rattle.std.specs.Prelude.{◌≡◌, List, ℕ, IfErr, IfOk, OnOk};
 ghost use Rattle.zjournal.specs.Device.{LeavesOnly, Only};
 ghost use Rattle.zjournal.specs.Journal.{Represents};
 ghost use Rattle.zjournal.specs.Scan.{joined};
 ghost use Rattle.zdurable.specs.Faults.{IsOfReading, IsSuchFile};
+ghost use Rattle.zdurable.specs.Compaction.{MayReplace};
 ghost use Rattle.zdurable.specs.DurableFront.{KeepsTree};
 ghost use Rattle.zdurable.specs.Stored.{bytes_of, file_of, tree_of, IsGood, IsStored};
 ghost use Rattle.zsnapshots.specs.folder.Texts.{snapshot_text};
 
-use crate::Compacted;
+use crate::beginning::compact_beginning;
 use crate::compaction::compact;
 use crate::fault::{DurableFault, OpenFault};
 use crate::looking::look;
@@ -99,9 +101,30 @@ impl<D: Device> Stored<D> {
             → LeavesOnly D.moment D.left_since (file_of self.old) (file_of self.new)
             (KeepsTree servers (tree_of self.old)) }
     {
-        match compact(self.alloc, &mut self.journal, &self.tree)? {
-            Compacted::Replaced => Ok(()),
-            Compacted::Postponed => Err(DurableFault::Failed),
-        }
+        compact(self.alloc, &mut self.journal, &self.tree)?;
+        Ok(())
+    }
+
+    /// Replaces the file, which is all parts of a journal but the last one, with one that holds the
+    /// tree alone. The last part continues from the new file as from the old one. At each moment a
+    /// crash leaves a file with the same tree. After a fault it is to be opened again.
+    pub fn compact_beginning(&mut self) -> Result<(), DurableFault>
+        requires { IsGood D.seen D.may_leave self.old }
+        ensures kept { (servers : ℕ) (batches : List (List ℕ))
+            → IsStored D.seen D.may_leave servers batches self.old
+            → OnOk result ((next : List (List ℕ))
+            × IsStored D.seen D.may_leave servers next self.new
+            × (joined next ≡ snapshot_text (tree_of self.old))
+            × MayReplace servers (tree_of self.old) (D.seen (file_of self.old))
+            (D.seen (file_of self.new))) }
+        ensures good { OnOk result (IsGood D.seen D.may_leave self.new) }
+        ensures same { tree_of self.new ≡ tree_of self.old }
+        ensures any_moment { (servers : ℕ) (batches : List (List ℕ))
+            → IsStored D.seen D.may_leave servers batches self.old
+            → LeavesOnly D.moment D.left_since (file_of self.old) (file_of self.new)
+            (KeepsTree servers (tree_of self.old)) }
+    {
+        compact_beginning(self.alloc, &mut self.journal, &self.tree)?;
+        Ok(())
     }
 }

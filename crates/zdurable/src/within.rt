@@ -15,7 +15,6 @@ ghost use Rattle.zdurable.specs.Faults.{disk_failed, IsOfReading};
 ghost use Rattle.zdurable.specs.support.Opening.{AreNext, IsFoundOr, IsOfLimits, IsOfRenewal};
 ghost use Rattle.zdurable.specs.support.Opening.{IsSuchOpening, SaysOther, measure_if};
 
-use crate::Compacted;
 use crate::compaction::compact;
 use crate::fault::{DurableFault, OpenFault};
 use std::alloc::Global;
@@ -96,8 +95,7 @@ fn renewed<D: Device>(
     requires { file.IsSound D.seen D.may_leave journal }
     ensures kept { (servers : ℕ) (batches : List (List ℕ)) → file.IsOpen journal
         → IsAtRest D.seen D.may_leave servers batches journal
-        → IfOk result (λ new. RestsAfter D.seen D.may_leave Compacted.Replaced servers batches
-        tree.now.tree new) }
+        → IfOk result (λ new. RestsAfter D.seen D.may_leave servers tree.now.tree new) }
     ensures open { IfOk result (λ new. file.IsOpen new) }
     ensures any_moment { (servers : ℕ) (batches : List (List ℕ))
         → IsAtRest D.seen D.may_leave servers batches journal
@@ -111,16 +109,12 @@ fn renewed<D: Device>(
 {
     let mut journal = journal;
     match compact(alloc, &mut journal, tree) {
-        Ok(Compacted::Replaced) => Ok(journal),
-        Ok(Compacted::Postponed) => Err((
-            OpenFault::Renewal(DurableFault::Failed),
-            journal.into_device(),
-        )),
+        Ok(()) => Ok(journal),
         Err(fault) => Err((OpenFault::Renewal(fault), journal.into_device())),
     }
 }
 
-/// Returns the bytes of a journal whose file replaced another, and 0 for any other.
+/// Returns from where the growth of a journal is measured: its end, if its file replaced another.
 pub(crate) fn measure_if<D: Device>(is_other: bool, journal: &Journal<D>) -> usize
     ensures { result ≡ measure_if is_other journal.now }
 {

@@ -11,8 +11,8 @@ use crate::files::{stage_in, worked_file};
 use crate::trees::Stage;
 use std::alloc::Global;
 use zdurable::{
-    Compacted, DurableFault, DurableFront, Input, OpenFault, Opened, Secret, ServerId, Terms,
-    TickLength, TreeLimits, WatchLimits,
+    DurableFault, DurableFront, Input, OpenFault, Opened, Secret, ServerId, Terms, TickLength,
+    TreeLimits, WatchLimits,
 };
 use zjournal::{Device, MemoryFile, OpenError};
 use ztesting::Ended;
@@ -180,13 +180,11 @@ fn did<D: Device>(kept: &mut DurableFront<D>, act: Act) -> Result<(), DurableFau
     }
 }
 
-// A compaction; one that is postponed is a fault, as no disk fails here.
+// A compaction.
 fn compacts<D: Device>(kept: &mut DurableFront<D>) -> Result<(), DurableFault>
     requires { IsSound D.seen D.may_leave kept.old }
     ensures { IsSound D.seen D.may_leave kept.new }
 {
-    match kept.compact()? {
-        Compacted::Replaced => Ok(()),
-        Compacted::Postponed => Err(DurableFault::Failed),
-    }
+    kept.compact()?;
+    Ok(())
 }

@@ -1,5 +1,7 @@
 pub mod file_lemmas
+pub mod Adler
 mod Blocks
+pub mod Digits
 pub mod Files
 mod Heads
 mod Cached

@@ -1,17 +1,17 @@
 -- What a crash leaves while a file is opened.
-use Rattle.std.proofs.Common.{◌≡◌, ◌<◌, inl, inr, ℕ, List, [], ◌∷◌, ◌++◌, take, drop, refl, sym, ◌∙◌, ap, subst}
-use Rattle.zjournal.specs.declared.format.Format.{Format}
+use Rattle.std.proofs.Common.{◌≡◌, ◌<◌, ◌⊎◌, inl, inr, ℕ, List, [], ◌∷◌, ◌++◌, take, drop, refl, sym, ◌∙◌, ap, subst}
 use Rattle.zjournal.specs.declared.place.Place.{Place}
 use Rattle.zjournal.specs.declared.reading.Found.{Found}
+use Rattle.zjournal.specs.declared.reading.Found.TheVariants.{Unmade, Unopened}
 use Rattle.zjournal.specs.Device.{Only, Elapses, LeavesOnly}
 use Rattle.zjournal.specs.Blocks.{at_rest}
 use Rattle.zjournal.specs.CommitBytes.{IsClosing, IsOpening}
-use Rattle.zjournal.specs.Journal.{head, holdings, IsUnopenedIn, Keeps, Represents}
+use Rattle.zjournal.specs.Journal.{head, holdings, IsBeingMade, IsUnmade, IsUnopened, Keeps, Represents}
 use Rattle.zjournal.specs.Found.{KeepsTo, IsFound}
 use Rattle.zjournal.proofs.Moments.{started, goes_on, joined_runs, weaker}
 use Rattle.zjournal.proofs.Files.{keeps, closing_keeps, closed_rests, any_head_commit_byte}
 use Rattle.zjournal.proofs.Blocks.{first_block}
-use Rattle.zjournal.proofs.Readings.{files_have_one_reading, one_format}
+use Rattle.zjournal.proofs.Readings.{files_have_one_reading, one_start}
 
 -- what was found of the bytes is found of the file
 pub found_of : (servers : ℕ) (bytes file : List ℕ) (found variant : Found) → bytes ≡ file → found ≡ variant
@@ -19,16 +19,21 @@ pub found_of : (servers : ℕ) (bytes file : List ℕ) (found variant : Found) �
 found_of servers bytes file found variant same is h = subst (λ (f : Found). IsFound servers file f) is
     (subst (λ (b : List ℕ). IsFound servers b found) same h)
 
+pub being_made_of : (servers : ℕ) (bytes file : List ℕ) (found : Found) → bytes ≡ file → (found ≡ Unmade) ⊎ (found ≡ Unopened)
+    → IsFound servers bytes found → IsBeingMade servers file
+being_made_of servers bytes file found same (inl is) h = inl (found_of servers bytes file found Unmade same is h)
+being_made_of servers bytes file found same (inr is) h = let unopened = found_of servers bytes file found Unopened same is h in inr unopened.0
+
 -- the head's commit_byte is opened
-module _ (format : Format) (servers : ℕ) (some : 0 < servers) (file mid : List ℕ) (same : mid ≡ file) (unopened : IsUnopenedIn format servers file) where
-  back : drop 1 mid ≡ head format servers ++ 0 ∷ 0 ∷ []
+module _ (servers : ℕ) (some : 0 < servers) (file mid : List ℕ) (same : mid ≡ file) (unopened : IsUnopened servers file) where
+  back : drop 1 mid ≡ head 1 servers ++ 0 ∷ 0 ∷ []
   back = ap (λ (l : List ℕ). drop 1 l) (same ∙ unopened.2)
 
   opening_head : (c : List ℕ) → IsOpening (take 0 mid) (drop 1 mid) c → Represents servers [] c
-  opening_head c o = any_head_commit_byte servers some format o.0 c (o.1 ∙ ap (λ (l : List ℕ). o.0 ∷ l) back)
+  opening_head c o = any_head_commit_byte servers some o.0 c (o.1 ∙ ap (λ (l : List ℕ). o.0 ∷ l) back)
 
-  pub opened_head : (new : List ℕ) → new ≡ take 0 mid ++ 1 ∷ drop 1 mid → new ≡ at_rest (holdings format servers [])
-  opened_head new is = is ∙ ap (λ (l : List ℕ). 1 ∷ l) back ∙ sym (first_block (head format servers) [] (0 ∷ []))
+  pub opened_head : (new : List ℕ) → new ≡ take 0 mid ++ 1 ∷ drop 1 mid → new ≡ at_rest (holdings 1 servers [])
+  opened_head new is = is ∙ ap (λ (l : List ℕ). 1 ∷ l) back ∙ sym (first_block (head 1 servers) [] (0 ∷ []))
 
 -- the end is closed
 closing_stands : (servers : ℕ) (batches : List (List ℕ)) (place : Place) (file mid : List ℕ) → mid ≡ file → KeepsTo servers batches place file
@@ -37,16 +42,17 @@ closing_stands servers batches place file mid same k c closing = inl (closing_ke
     (subst (λ (f : List ℕ). IsClosing f place.end c) same closing))
 
 pub closed_stands : (servers : ℕ) (batches : List (List ℕ)) (place : Place) (file mid : List ℕ) → mid ≡ file
-    → KeepsTo servers batches place file → (new : List ℕ) → new ≡ take place.end mid ++ 0 ∷ [] → new ≡ at_rest (holdings place.format servers batches)
+    → KeepsTo servers batches place file → (new : List ℕ) → new ≡ take place.end mid ++ 0 ∷ [] → new ≡ at_rest (holdings place.start servers batches)
 closed_stands servers batches place file mid same k new is = closed_rests servers batches file place k new (is
     ∙ ap (λ (l : List ℕ). take place.end l ++ 0 ∷ []) same)
 
--- and it has one format
-pub found_format : (servers : ℕ) (batches others : List (List ℕ)) (place : Place) (file : List ℕ) (k : Keeps servers batches file)
-    → KeepsTo servers others place file → place.format ≡ k.format
-found_format servers batches others place file k found =
-    one_format servers file batches k others (record {
-      format = place.format;
+-- and its first checksum continues from one sum
+pub found_start : (servers : ℕ) (batches others : List (List ℕ)) (place : Place) (file : List ℕ) (k : Keeps servers batches file)
+    → KeepsTo servers others place file → place.start ≡ k.start
+found_start servers batches others place file k found =
+    one_start servers file batches k others (record {
+      start = place.start;
+      is_sum = found.is_place.is_sum;
       texts = found.texts;
       end = drop place.end file;
       split = found.split;
@@ -89,12 +95,16 @@ module _ {D : Type 0} (seen : D → List ℕ) (may_leave : D → List ℕ → Ty
       (λ c q. subst (λ (b : List (List ℕ)). Represents servers b c) (files_have_one_reading servers (seen old) found batches finds stands)
       (implies c q)))
 
-  pub unopened_leaves : 0 < servers → (format : Format) → IsUnopenedIn format servers (seen old) → (new : D)
+  pub unmade_leaves : IsUnmade servers (seen old) → (new : D) → LeavesOnly moment left_since mid new (Represents servers [])
+      → LeavesOnly moment left_since old new (Represents servers batches)
+  unmade_leaves unmade new second = then_leaves [] (inr (inl unmade, refl)) new (Represents servers []) second (λ c made. made)
+
+  pub unopened_leaves : 0 < servers → IsUnopened servers (seen old) → (new : D)
       → LeavesOnly moment left_since mid new (IsOpening (take 0 (seen mid)) (drop 1 (seen mid)))
       → LeavesOnly moment left_since old new (Represents servers batches)
-  unopened_leaves some format unopened new second =
-      then_leaves [] (inr (inr (format, unopened), refl)) new (IsOpening (take 0 (seen mid)) (drop 1 (seen mid))) second
-      (opening_head format servers some (seen old) (seen mid) same unopened)
+  unopened_leaves some unopened new second =
+      then_leaves [] (inr (inr unopened, refl)) new (IsOpening (take 0 (seen mid)) (drop 1 (seen mid))) second
+      (opening_head servers some (seen old) (seen mid) same unopened)
 
   pub kept_leaves : (found : List (List ℕ)) (place : Place) → KeepsTo servers found place (seen old) → (new : D)
       → LeavesOnly moment left_since mid new (IsClosing (seen mid) place.end) → LeavesOnly moment left_since old new (Represents servers batches)

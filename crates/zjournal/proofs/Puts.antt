@@ -6,8 +6,7 @@ use Rattle.std.specs.List.{list_any}
 use Rattle.zjournal.specs.declared.journal.Journal.{Journal}
 use Rattle.zjournal.specs.Device.{Only, LeavesOnly}
 use Rattle.zjournal.specs.Blocks.{IsText, AreTexts, at_rest}
-use Rattle.zjournal.specs.Checksum.{adler_after, next, stamped}
-use Rattle.zjournal.specs.declared.format.Format.{Format}
+use Rattle.zjournal.specs.Checksum.{adler_after, stamped}
 use Rattle.zjournal.specs.CommitBytes.{IsAdding}
 use Rattle.zjournal.specs.Journal.{holdings, Keeps, IsAtRest, IsWithOrWithout}
 use Rattle.zjournal.proofs.Sums.{stamped_text}
@@ -39,38 +38,38 @@ module _ {D : Type 0} (seen : D → List ℕ) (may_leave : D → List ℕ → Ty
       → LeavesOnly moment left_since journal.device journal.device (IsWithOrWithout servers batches batch)
   stays batch now = started moment left_since journal.device (IsWithOrWithout servers batches batch)
       (λ c left. inl (subst (Keeps servers batches) (sym (rest.durable c (now c left)))
-      (rest_keeps journal.place.format servers batches (seen journal.device) journal.place.end rest.texts rest.file rest.place.end)))
+      (rest_keeps journal.place.start rest.place.is_sum servers batches (seen journal.device) journal.place.end rest.texts rest.file rest.place.end)))
 
   module _ (batch block : List ℕ) (passed : list_any (λ b. b == 0) batch ≡ false)
       (block_is : block ≡ stamped journal.place.sum batch ++ 0 ∷ 0 ∷ []) where
-    held_is : stamped journal.place.sum batch ≡ stamped_after journal.place.format batches batch
+    held_is : stamped journal.place.sum batch ≡ stamped_after journal.place.start batches batch
     held_is = ap (λ (n : ℕ). stamped n batch) rest.place.sum
 
-    text : IsText (stamped_after journal.place.format batches batch)
+    text : IsText (stamped_after journal.place.start batches batch)
     text = subst IsText held_is (stamped_text journal.place.sum batch (tested_text batch passed))
 
-    is_block : block ≡ stamped_after journal.place.format batches batch ++ 0 ∷ 0 ∷ []
+    is_block : block ≡ stamped_after journal.place.start batches batch ++ 0 ∷ 0 ∷ []
     is_block = block_is ∙ ap (λ (l : List ℕ). l ++ 0 ∷ 0 ∷ []) held_is
 
     pub leaves : (new : D) → LeavesOnly moment left_since journal.device new (IsAdding (take journal.place.end (seen journal.device)) block)
         → LeavesOnly moment left_since journal.device new (IsWithOrWithout servers batches batch)
     leaves new run = weaker moment left_since journal.device new (IsAdding (take journal.place.end (seen journal.device)) block)
         (IsWithOrWithout servers batches batch) run
-        (λ c adding. adding_keeps journal.place.format servers batches (seen journal.device) journal.place.end rest.texts rest.file rest.place.end
+        (λ c adding. adding_keeps journal.place.start rest.place.is_sum servers batches (seen journal.device) journal.place.end rest.texts rest.file rest.place.end
         batch block c text is_block adding)
 
     pub rests : (later : Journal D) → later.servers ≡ journal.servers
         → seen later.device ≡ take journal.place.end (seen journal.device) ++ 1 ∷ block
-        → later.place.format ≡ journal.place.format → later.place.end ≡ journal.place.end + length block
-        → later.place.sum ≡ next journal.place.format (adler_after journal.place.sum batch) → Only (seen later.device) (may_leave later.device)
+        → later.place.start ≡ journal.place.start → later.place.end ≡ journal.place.end + length block
+        → later.place.sum ≡ adler_after journal.place.sum batch → Only (seen later.device) (may_leave later.device)
         → IsAtRest seen may_leave servers (batches ++ batch ∷ []) later
-    rests later same file format end sum only = record {
-      texts = subst (λ (f : Format). AreTexts (holdings f servers (batches ++ batch ∷ []))) (sym format)
-          (added_texts journal.place.format servers batches (seen journal.device) journal.place.end rest.texts rest.file rest.place.end batch text);
-      file = added_rests journal.place.format servers batches (seen journal.device) journal.place.end rest.texts rest.file rest.place.end
+    rests later same file start end sum only = record {
+      texts = subst (λ (n : ℕ). AreTexts (holdings n servers (batches ++ batch ∷ []))) (sym start)
+          (added_texts journal.place.start rest.place.is_sum servers batches (seen journal.device) journal.place.end rest.texts rest.file rest.place.end batch text);
+      file = added_rests journal.place.start rest.place.is_sum servers batches (seen journal.device) journal.place.end rest.texts rest.file rest.place.end
           batch block (seen later.device) is_block file
-          ∙ ap (λ (f : Format). at_rest (holdings f servers (batches ++ batch ∷ []))) (sym format);
+          ∙ ap (λ (n : ℕ). at_rest (holdings n servers (batches ++ batch ∷ []))) (sym start);
       head_is = same ∙ rest.head_is;
-      place = more_place servers batches journal.place later.place batch block rest.place block_is format end sum;
+      place = more_place servers batches journal.place later.place batch block rest.place block_is start end sum;
       durable = only;
     }

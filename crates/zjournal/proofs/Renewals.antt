@@ -5,16 +5,14 @@ use Rattle.std.proofs.lemmas.List.{take_at}
 use Rattle.zjournal.specs.declared.journal.Journal.{Journal}
 use Rattle.zjournal.specs.Device.{Only, Elapses, LeavesOnly, IsEither}
 use Rattle.zjournal.specs.Blocks.{IsText, AreTexts, at_rest, blocks}
-use Rattle.zjournal.specs.Checksum.{adler_after, next, next_after, stamped}
-use Rattle.zjournal.specs.declared.format.Format.{Format}
-use Rattle.zjournal.specs.declared.format.Format.TheVariants.{Running}
+use Rattle.zjournal.specs.Checksum.{IsSum, adler_after, stamped}
 use Rattle.zjournal.specs.Journal.{head, holdings, Keeps, IsAtRest, IsPlace}
 use Rattle.zjournal.specs.declared.place.Place.{Place}
 use Rattle.zjournal.specs.Renewal.{IsRenewing, IsOldOrNew}
 use Rattle.zjournal.specs.Untouched.{IsUntouched, IsTaking}
 use Rattle.zjournal.proofs.Moments.{started, goes_on, joined_runs, weaker}
 use Rattle.zjournal.proofs.Opens.{only_read, only_left}
-use Rattle.zjournal.proofs.Files.{head_text_now, stamped_after, first_place, rest_keeps, more_place, more_texts, one_more}
+use Rattle.zjournal.proofs.Files.{other_head_text, stamped_after, first_place, rest_keeps, more_place, more_texts, one_more}
 
 -- a block without the closed commit_byte after it
 pub without_commit_byte : (held block : List ℕ) → block ≡ held ++ 0 ∷ 0 ∷ [] → take (length block - 1) block ≡ held ++ 0 ∷ []
@@ -70,7 +68,7 @@ module _ {D : Type 0} (seen : D → List ℕ) (may_leave : D → List ℕ → Ty
 
   module _ (journal : Journal D) (servers : ℕ) (batches : List (List ℕ)) (rest : IsAtRest seen may_leave servers batches journal) where
     keeps_old : (c : List ℕ) → c ≡ seen journal.device → Keeps servers batches c
-    keeps_old c is = subst (Keeps servers batches) (sym is) (rest_keeps journal.place.format servers batches (seen journal.device)
+    keeps_old c is = subst (Keeps servers batches) (sym is) (rest_keeps journal.place.start rest.place.is_sum servers batches (seen journal.device)
         journal.place.end rest.texts rest.file rest.place.end)
 
     -- nothing was asked of the device
@@ -86,8 +84,8 @@ module _ {D : Type 0} (seen : D → List ℕ) (may_leave : D → List ℕ → Ty
     pub still_rests : (later : Journal D) → later.servers ≡ journal.servers → later.place ≡ journal.place
         → IsUntouched seen may_leave moment left_since journal.device later.device → IsAtRest seen may_leave servers batches later
     still_rests later same place untouched = record {
-      texts = subst (λ (p : Place). AreTexts (holdings p.format servers batches)) (sym place) rest.texts;
-      file = untouched.same ∙ rest.file ∙ ap (λ (p : Place). at_rest (holdings p.format servers batches)) (sym place);
+      texts = subst (λ (p : Place). AreTexts (holdings p.start servers batches)) (sym place) rest.texts;
+      file = untouched.same ∙ rest.file ∙ ap (λ (p : Place). at_rest (holdings p.start servers batches)) (sym place);
       head_is = same ∙ rest.head_is;
       place = subst (λ (p : Place). IsPlace servers batches p) (sym place) rest.place;
       durable = untouched.durable;
@@ -96,14 +94,15 @@ module _ {D : Type 0} (seen : D → List ℕ) (may_leave : D → List ℕ → Ty
     -- the new file has its head
     pub renewal_begun : (beside : D → List ℕ) (later : Journal D) → later.servers ≡ journal.servers → later.place ≡ journal.place
         → IsUntouched seen may_leave moment left_since journal.device later.device
-        → beside later.device ≡ blocks (head Running journal.servers ∷ []) → later.renewed.format ≡ Running → later.renewed.end ≡ 34
-        → later.renewed.sum ≡ 1 → IsRenewing seen may_leave beside servers batches [] later
-    renewal_begun beside later same place untouched begun format end sum = record {
+        → (start : ℕ) → IsSum start → beside later.device ≡ blocks (head start journal.servers ∷ []) → later.renewed.start ≡ start
+        → later.renewed.end ≡ 34 → later.renewed.sum ≡ start → IsRenewing seen may_leave beside servers batches [] later
+    renewal_begun beside later same place untouched start is_sum begun starts end sum = record {
       rest = still_rests later same place untouched;
-      format = format;
-      texts = (head_text_now journal.place.format servers rest.texts.0, tt);
-      so_far = begun ∙ ap (λ (n : ℕ). blocks (head Running n ∷ [])) rest.head_is;
-      place = first_place servers later.renewed end sum;
+      texts = (other_head_text journal.place.start later.renewed.start servers rest.texts.0, tt);
+      so_far = begun
+          ∙ ap (λ (n : ℕ). blocks (head start n ∷ [])) rest.head_is
+          ∙ ap (λ (n : ℕ). blocks (head n servers ∷ [])) (sym starts);
+      place = first_place servers later.renewed end (sum ∙ sym starts) (subst IsSum (sym starts) is_sum);
     }
 
   module _ (beside : D → List ℕ) (journal : Journal D) (servers : ℕ) (batches next_ones : List (List ℕ)) (renewing : IsRenewing
@@ -112,22 +111,23 @@ module _ {D : Type 0} (seen : D → List ℕ) (may_leave : D → List ℕ → Ty
     pub renewal_added : (batch : List ℕ) (later : Journal D) → IsText (stamped journal.renewed.sum batch) → later.servers ≡ journal.servers
         → later.place ≡ journal.place → IsUntouched seen may_leave moment left_since journal.device later.device
         → beside later.device ≡ beside journal.device ++ 1 ∷ (stamped journal.renewed.sum batch ++ 0 ∷ []) → (block : List ℕ)
-        → block ≡ stamped journal.renewed.sum batch ++ 0 ∷ 0 ∷ [] → later.renewed.format ≡ journal.renewed.format
+        → block ≡ stamped journal.renewed.sum batch ++ 0 ∷ 0 ∷ [] → later.renewed.start ≡ journal.renewed.start
         → later.renewed.end ≡ journal.renewed.end + length block
-        → later.renewed.sum ≡ next journal.renewed.format (adler_after journal.renewed.sum batch)
+        → later.renewed.sum ≡ adler_after journal.renewed.sum batch
         → IsRenewing seen may_leave beside servers batches (next_ones ++ batch ∷ []) later
-    renewal_added batch later text same place untouched added block is format end sum =
-        let held_is : stamped journal.renewed.sum batch ≡ stamped_after Running next_ones batch =
-        ap (λ (n : ℕ). stamped n batch) (renewing.place.sum ∙ ap (λ (f : Format). next_after f 1 next_ones) renewing.format) in
+    renewal_added batch later text same place untouched added block is starts end sum =
+        let held_is : stamped journal.renewed.sum batch ≡ stamped_after journal.renewed.start next_ones batch =
+        ap (λ (n : ℕ). stamped n batch) renewing.place.sum in
         record {
           rest = still_rests journal servers batches renewing.rest later same place untouched;
-          format = format ∙ renewing.format;
-          texts = more_texts Running servers next_ones renewing.texts batch (subst IsText held_is text);
+          texts = subst (λ (n : ℕ). AreTexts (holdings n servers (next_ones ++ batch ∷ []))) (sym starts)
+              (more_texts journal.renewed.start servers next_ones renewing.texts batch (subst IsText held_is text));
           so_far = added
               ∙ ap (λ (l : List ℕ). l ++ 1 ∷ (stamped journal.renewed.sum batch ++ 0 ∷ [])) renewing.so_far
-              ∙ ap (λ (l : List ℕ). blocks (holdings Running servers next_ones) ++ 1 ∷ (l ++ 0 ∷ [])) held_is
-              ∙ one_more Running servers next_ones batch;
-          place = more_place servers next_ones journal.renewed later.renewed batch block renewing.place is format end sum;
+              ∙ ap (λ (l : List ℕ). blocks (holdings journal.renewed.start servers next_ones) ++ 1 ∷ (l ++ 0 ∷ [])) held_is
+              ∙ one_more journal.renewed.start servers next_ones batch
+              ∙ ap (λ (n : ℕ). blocks (holdings n servers (next_ones ++ batch ∷ []))) (sym starts);
+          place = more_place servers next_ones journal.renewed later.renewed batch block renewing.place is starts end sum;
         }
 
     -- and the new file has taken the place
@@ -135,12 +135,12 @@ module _ {D : Type 0} (seen : D → List ℕ) (may_leave : D → List ℕ → Ty
         → seen later.device ≡ beside journal.device ++ 0 ∷ [] → Only (seen later.device) (may_leave later.device)
         → IsAtRest seen may_leave servers next_ones later
     renewed later same place taken only =
-        let format : later.place.format ≡ Running = ap (λ (p : Place). p.format) place ∙ renewing.format in
+        let starts : later.place.start ≡ journal.renewed.start = ap (λ (p : Place). p.start) place in
         record {
-          texts = subst (λ (f : Format). AreTexts (holdings f servers next_ones)) (sym format) renewing.texts;
+          texts = subst (λ (n : ℕ). AreTexts (holdings n servers next_ones)) (sym starts) renewing.texts;
           file = taken
               ∙ ap (λ (l : List ℕ). l ++ 0 ∷ []) renewing.so_far
-              ∙ ap (λ (f : Format). at_rest (holdings f servers next_ones)) (sym format);
+              ∙ ap (λ (n : ℕ). at_rest (holdings n servers next_ones)) (sym starts);
           head_is = same ∙ renewing.rest.head_is;
           place = subst (λ (p : Place). IsPlace servers next_ones p) (sym place) renewing.place;
           durable = only;
@@ -148,7 +148,8 @@ module _ {D : Type 0} (seen : D → List ℕ) (may_leave : D → List ℕ → Ty
 
     keeps_new : (c : List ℕ) → c ≡ beside journal.device ++ 0 ∷ [] → Keeps servers next_ones c
     keeps_new c is = record {
-      format = Running;
+      start = journal.renewed.start;
+      is_sum = renewing.place.is_sum;
       texts = renewing.texts;
       end = 0 ∷ [];
       split = is

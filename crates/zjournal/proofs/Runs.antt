@@ -2,7 +2,6 @@
 use Rattle.std.proofs.Common.{◌≡◌, inl, inr, ℕ, ◌+◌, ◌<◌, ◌≤◌, List, [], ◌∷◌, ◌++◌, length, take, drop, ◌∙◌, ap}
 use Rattle.zjournal.specs.Device.{Holds, Torn, Cut, LeavesOnly}
 use Rattle.zjournal.specs.CommitBytes.{IsClosing, IsOpening, IsAdding}
-use Rattle.zjournal.specs.declared.format.Format.TheVariants.{Running}
 use Rattle.zjournal.specs.Journal.{head, IsUnmade, Represents}
 use Rattle.zjournal.proofs.Moments.{joined_runs, weaker}
 use Rattle.zjournal.proofs.Steps.{closing_cut, closing_commit_byte, opening_commit_byte, staging, staged, staged_front, staged_back}
@@ -55,7 +54,7 @@ module _ {D : Type 0} (moment : D → ℕ) (left_since : D → ℕ → List ℕ 
     clear_leaves run = weaker moment left_since old mid (IsClosing file 0) (Represents servers []) run
         (λ c closing. closing_unmade servers some file c unmade closing)
 
-    pub make_leaves : (block : List ℕ) → block ≡ head Running servers ++ 0 ∷ 0 ∷ [] → LeavesOnly moment left_since old mid (IsClosing file 0)
+    pub make_leaves : (block : List ℕ) → block ≡ head 1 servers ++ 0 ∷ 0 ∷ [] → LeavesOnly moment left_since old mid (IsClosing file 0)
         → (new : D) → LeavesOnly moment left_since mid new (IsAdding [] block) → LeavesOnly moment left_since old new (Represents servers [])
     make_leaves block is first new second =
         joined_runs moment left_since old mid new (Represents servers []) (clear_leaves first)

@@ -3,12 +3,11 @@ use Rattle.std.proofs.Common.{◌≡◌, ◌≢◌, ℕ, ◌+◌, ◌-◌, ◌<�
 use Rattle.std.proofs.Common.{zero, suc, refl, sym, ◌∙◌, ap, subst, arith, append_assoc, length-append}
 use Rattle.std.proofs.lemmas.List.{append-nil, take_at, drop_all, drop_more}
 use Rattle.zjournal.specs.Blocks.{IsText, AreTexts, blocks, IsEnd}
-use Rattle.zjournal.specs.Checksum.{adler_after, next, next_after, stamped, stamped_all}
-use Rattle.zjournal.specs.declared.format.Format.{Format}
+use Rattle.zjournal.specs.Checksum.{adler_after, stamped, stamped_all}
 use Rattle.zjournal.specs.declared.place.Place.{Place}
 use Rattle.zjournal.specs.Scan.{EndsAt, IsBatch, IsNoBatch, AreBatches, joined}
 use Rattle.zjournal.proofs.Blocks.{blocks-push, length-blocks-push, texts-push, first_zero, no_zero}
-use Rattle.zjournal.proofs.Sums.{next-push, stamped-push}
+use Rattle.zjournal.proofs.Sums.{sum-push, stamped-push}
 
 -- what was read of a text so far
 abbrev pub ReadsTo : List ℕ → ℕ → ℕ → Type 0
@@ -52,9 +51,9 @@ other_is_none bytes place at ends none batch more h is =
 
 -- a text after its checksum is one
 pub checked_is_batch : (bytes : List ℕ) (place there : Place) (at sum : ℕ) (ends : EndsAt bytes (place.end + 1) at) (text : List ℕ)
-    → ends.1.0 ≡ stamped place.sum text → sum ≡ adler_after place.sum text → there.format ≡ place.format → there.end ≡ at + 1
-    → there.sum ≡ next place.format sum → IsBatch bytes place text there
-checked_is_batch bytes place there at sum ends text is sum_is format end next_is =
+    → ends.1.0 ≡ stamped place.sum text → sum ≡ adler_after place.sum text → there.start ≡ place.start → there.end ≡ at + 1
+    → there.sum ≡ sum → IsBatch bytes place text there
+checked_is_batch bytes place there at sum ends text is sum_is start end goes_on =
     let within = ends.0 in let place_is = ends.1.2 in
     record {
       text = subst IsText is ends.1.3;
@@ -63,8 +62,8 @@ checked_is_batch bytes place there at sum ends text is sum_is format end next_is
           ∙ ap (λ (l : List ℕ). l ++ 0 ∷ drop (at + 1) bytes) is
           ∙ ap (λ (n : ℕ). stamped place.sum text ++ 0 ∷ drop n bytes) (sym end);
       long = omega (arith, place_is, end, ap length is);
-      same = format;
-      goes_on = next_is ∙ ap (λ (n : ℕ). next place.format n) sum_is;
+      same = start;
+      goes_on = goes_on ∙ sum_is;
     }
 
 -- no batch yet
@@ -77,10 +76,10 @@ pub more_batches : (bytes : List ℕ) (start place there : Place) (batches : Lis
     → AreBatches bytes start batches place → place.end < length bytes → get_or bytes place.end 0 ≡ 1
     → IsBatch bytes place batch there → AreBatches bytes start (batches ++ batch ∷ []) there
 more_batches bytes start place there batches batch so_far within set_commit_byte one =
-    let all = stamped_all start.format start.sum batches in
+    let all = stamped_all start.sum batches in
     let held = stamped place.sum batch in
-    let more : stamped_all start.format start.sum (batches ++ batch ∷ []) ≡ all ++ held ∷ [] =
-    stamped-push start.format start.sum batches batch ∙ ap (λ (n : ℕ). all ++ stamped n batch ∷ []) (sym so_far.goes_on) in
+    let more : stamped_all start.sum (batches ++ batch ∷ []) ≡ all ++ held ∷ [] =
+    stamped-push start.sum batches batch ∙ ap (λ (n : ℕ). all ++ stamped n batch ∷ []) (sym so_far.goes_on) in
     record {
       texts = subst AreTexts (sym more) (texts-push all held so_far.texts one.text);
       within = one.within;
@@ -93,9 +92,8 @@ more_batches bytes start place there batches batch so_far within set_commit_byte
           omega (arith, so_far.long, one.long, longer, length-blocks-push all held));
       same = one.same ∙ so_far.same;
       goes_on = one.goes_on
-          ∙ ap (λ (n : ℕ). next place.format (adler_after n batch)) so_far.goes_on
-          ∙ ap (λ (f : Format). next f (adler_after (next_after start.format start.sum batches) batch)) so_far.same
-          ∙ sym (next-push start.format start.sum batches batch);
+          ∙ ap (λ (n : ℕ). adler_after n batch) so_far.goes_on
+          ∙ sym (sum-push start.sum batches batch);
     }
 
 pub joined_more : (batches : List (List ℕ)) (batch : List ℕ) → joined (batches ++ batch ∷ []) ≡ joined batches ++ batch

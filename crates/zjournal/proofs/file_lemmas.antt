@@ -1,3 +1,4 @@
 pub mod Unchanged
 pub mod Seen
 pub mod Named
+pub mod Split

@@ -1,10 +1,13 @@
 -- The checksum of a block: Adler-32 (RFC 1950, sections 2.2 and 9), in eight hexadecimal digits, the
--- highest first. In a file of version 1 it is that of the block's own text. In one of version 2 the
--- sum runs on: it is that of all texts so far. So a block that is missing shows at the next one. A
--- checksum detects a failing disk. No law relies on two texts having different checksums.
-use Rattle.std.specs.Prelude.{ℕ, ◌+◌, ◌*◌, ◌/◌, ◌%◌, nat_lt, if◌then◌else◌, List, [], ◌∷◌, ◌++◌}
-use Rattle.zjournal.specs.declared.format.Format.{Format}
-use Rattle.zjournal.specs.declared.format.Format.TheVariants.{Separate, Running}
+-- highest first. The sum runs on: it is that of all texts so far. So a block that is missing shows at
+-- the next one. A file's head has the sum from which its first one continues: 1, or another after a
+-- compaction, so that the parts that follow still continue. A checksum detects a failing disk. No law
+-- relies on two texts having different checksums.
+use Rattle.std.specs.Prelude.{ℕ, ◌<◌, ◌+◌, ◌*◌, ◌/◌, ◌%◌, nat_lt, if◌then◌else◌, List, [], ◌∷◌, ◌++◌}
+
+-- both sums of a checksum are below 65521
+abbrev pub IsSum : ℕ → Type 0
+IsSum sum = (sum % 65536 < 65521) × (sum / 65536 < 65521)
 
 -- two sums, of the bytes and of these sums, each modulo 65521
 abbrev pub adler_from : ℕ → ℕ → List ℕ → ℕ
@@ -35,17 +38,12 @@ digits n =
 abbrev pub stamped : ℕ → List ℕ → List ℕ
 stamped sum text = digits (adler_after sum text) ++ text
 
--- what the next checksum continues from, after one of this sum
-abbrev pub next : Format → ℕ → ℕ
-next Separate sum = 1
-next Running sum = sum
-
--- and after these texts
-abbrev pub next_after : Format → ℕ → List (List ℕ) → ℕ
-next_after format sum [] = sum
-next_after format sum (text ∷ texts) = next_after format (next format (adler_after sum text)) texts
+-- the sum after these texts, which continues from this one
+abbrev pub sum_after_all : ℕ → List (List ℕ) → ℕ
+sum_after_all sum [] = sum
+sum_after_all sum (text ∷ texts) = sum_after_all (adler_after sum text) texts
 
 -- texts after their checksums, of which the first continues from this sum
-abbrev pub stamped_all : Format → ℕ → List (List ℕ) → List (List ℕ)
-stamped_all format sum [] = []
-stamped_all format sum (text ∷ texts) = stamped sum text ∷ stamped_all format (next format (adler_after sum text)) texts
+abbrev pub stamped_all : ℕ → List (List ℕ) → List (List ℕ)
+stamped_all sum [] = []
+stamped_all sum (text ∷ texts) = stamped sum text ∷ stamped_all (adler_after sum text) texts

@@ -3,22 +3,24 @@
 use Rattle.std.specs.Prelude.{◌≡◌, ◌⊎◌, ℕ, List}
 use Rattle.zjournal.specs.declared.fault.PutError.{PutError}
 use Rattle.zjournal.specs.declared.fault.PutError.TheVariants.{Memory, Failed, NotText, Full, Closed}
-use Rattle.zjournal.specs.declared.format.Format.TheVariants.{Running}
 use Rattle.zjournal.specs.declared.journal.Journal.{Journal}
 use Rattle.zjournal.specs.Blocks.{AreTexts, blocks}
 use Rattle.zjournal.specs.Journal.{device_of, holdings, Keeps, IsAtRest, IsOpen, IsPlace}
 
--- the length in bytes of the new file's blocks
+-- of the new file: the length in bytes of its blocks, and the sum from which its first checksum
+-- continues
 abbrev pub renewed_size_of : {D : Type 0} → Journal D → ℕ
 renewed_size_of journal = journal.renewed.end
 
+abbrev pub renewed_start_of : {D : Type 0} → Journal D → ℕ
+renewed_start_of journal = journal.renewed.start
+
 -- the file is at rest with some batches, and the file beside it has the blocks of the next ones so
--- far, in version 2
+-- far
 pub record IsRenewing {D : Type 0} (seen : D → List ℕ) (may_leave : D → List ℕ → Type 0) (beside : D → List ℕ) (servers : ℕ) (batches next : List (List ℕ)) (journal : Journal D) : Type 0 where
   pub rest : IsAtRest seen may_leave servers batches journal
-  pub format : journal.renewed.format ≡ Running
-  pub texts : AreTexts (holdings Running servers next)
-  pub so_far : beside journal.device ≡ blocks (holdings Running servers next)
+  pub texts : AreTexts (holdings journal.renewed.start servers next)
+  pub so_far : beside journal.device ≡ blocks (holdings journal.renewed.start servers next)
   pub place : IsPlace servers next journal.renewed
 
 -- a journal that takes batches is being renewed

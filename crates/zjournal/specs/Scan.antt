@@ -4,7 +4,7 @@ use Rattle.zjournal.specs.declared.place.Place.{Place}
 use Rattle.zjournal.specs.declared.fault.OpenError.{OpenError}
 use Rattle.zjournal.specs.declared.fault.OpenError.TheVariants as fault
 use Rattle.zjournal.specs.Blocks.{IsText, AreTexts, blocks}
-use Rattle.zjournal.specs.Checksum.{adler_after, next, next_after, stamped, stamped_all}
+use Rattle.zjournal.specs.Checksum.{adler_after, sum_after_all, stamped, stamped_all}
 
 -- a text from there on ends with the 0 here
 abbrev pub EndsAt : List ℕ → ℕ → ℕ → Type 0
@@ -17,8 +17,8 @@ pub record IsBatch (bytes : List ℕ) (place : Place) (batch : List ℕ) (there 
   pub within : there.end ≤ length bytes
   pub stands : drop (place.end + 1) bytes ≡ stamped place.sum batch ++ 0 ∷ drop there.end bytes
   pub long : there.end ≡ place.end + (length (stamped place.sum batch) + 2)
-  pub same : there.format ≡ place.format
-  pub goes_on : there.sum ≡ next place.format (adler_after place.sum batch)
+  pub same : there.start ≡ place.start
+  pub goes_on : there.sum ≡ adler_after place.sum batch
 
 -- no batch is in a block at this position
 abbrev pub IsNoBatch : List ℕ → Place → Type 0
@@ -31,12 +31,12 @@ joined (text ∷ texts) = text ++ joined texts
 
 -- the blocks of these batches reach from one position to another
 pub record AreBatches (bytes : List ℕ) (start : Place) (batches : List (List ℕ)) (last : Place) : Type 0 where
-  pub texts : AreTexts (stamped_all start.format start.sum batches)
+  pub texts : AreTexts (stamped_all start.sum batches)
   pub within : last.end ≤ length bytes
-  pub stand : drop start.end bytes ≡ blocks (stamped_all start.format start.sum batches) ++ drop last.end bytes
-  pub long : last.end ≡ start.end + length (blocks (stamped_all start.format start.sum batches))
-  pub same : last.format ≡ start.format
-  pub goes_on : last.sum ≡ next_after start.format start.sum batches
+  pub stand : drop start.end bytes ≡ blocks (stamped_all start.sum batches) ++ drop last.end bytes
+  pub long : last.end ≡ start.end + length (blocks (stamped_all start.sum batches))
+  pub same : last.start ≡ start.start
+  pub goes_on : last.sum ≡ sum_after_all start.sum batches
 
 -- after some batches is a set commit byte at this index, and after it something that is no batch
 abbrev pub IsOtherAt : List ℕ → Place → ℕ → Type 0

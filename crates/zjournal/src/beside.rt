@@ -5,10 +5,8 @@ ghost use Rattle.std.specs.Prelude.{OnOk, IsErrOf};
 ghost use Rattle.zjournal.specs.Blocks.{blocks};
 ghost use Rattle.zjournal.specs.Device.{LeavesOnly, Only};
 ghost use Rattle.zjournal.specs.Journal.{head};
-ghost use Rattle.zjournal.specs.declared.format.Format.TheVariants.{Running};
 ghost use Rattle.zjournal.specs.Untouched.{IsTaking, IsUntouched};
 
-use crate::format::Format;
 use crate::head::head_block;
 use crate::{Device, DeviceError};
 
@@ -56,10 +54,10 @@ pub fn add_open_block<D: Device>(device: &mut D, block: &[u8]) -> Result<(), Dev
     Ok(())
 }
 
-/// Begins a new file, and writes its head, in version 2.
-pub fn begin_file<D: Device>(device: &mut D, servers: u8) -> Result<(), DeviceError>
+/// Begins a new file, and writes its head. The first checksum of the file continues from `start`.
+pub fn begin_file<D: Device>(device: &mut D, start: u32, servers: u8) -> Result<(), DeviceError>
     requires durable { Only (D.seen device.old) (D.may_leave device.old) }
-    ensures begun { OnOk result (D.beside device.new ≡ blocks (head Running servers ∷ [])) }
+    ensures begun { OnOk result (D.beside device.new ≡ blocks (head start servers ∷ [])) }
     ensures untouched { IsUntouched D.seen D.may_leave D.moment D.left_since
         device.old device.new }
     ensures failed { IsErrOf result DeviceError.Failed
@@ -67,7 +65,7 @@ pub fn begin_file<D: Device>(device: &mut D, servers: u8) -> Result<(), DeviceEr
     ensures faults { D.faults device.old ≤ D.faults device.new }
 {
     begin(device)?;
-    add_open_block(device, &head_block(Format::Running, servers))?;
+    add_open_block(device, &head_block(start, servers))?;
     Ok(())
 }
 

@@ -4,8 +4,9 @@
 //! A set commit byte whose block doesn't match its checksum can't come from a crash, so it is
 //! damage. The file is left as it is: cutting it would lose acknowledged batches.
 
-ghost use Rattle.std.specs.Prelude.{◌≡◌, ◌<◌, ◌++◌, [], ◌∷◌, List, ℕ, IfOk, IfSome, IfNone};
-ghost use Rattle.zjournal.specs.Checksum.{adler_after, digit, digits, stamped};
+ghost use Rattle.std.specs.Prelude.{◌≡◌, ◌<◌, ◌^◌, ◌++◌, [], ◌∷◌, List, ℕ, length, map};
+ghost use Rattle.std.specs.Prelude.{IfOk, IfSome, IfNone, IsTrue, ◌↔◌};
+ghost use Rattle.zjournal.specs.Checksum.{IsSum, adler_after, digit, digits, stamped, sum_after_all};
 
 use std::alloc::{AllocError, Global};
 
@@ -22,6 +23,46 @@ pub fn sum_after(sum: u32, text: &[u8]) -> u32
     b * 65536 + a
 }
 
+/// Returns whether both sums of a checksum are below 65521.
+pub fn is_sum(sum: u32) -> bool
+    ensures { IsTrue result ↔ IsSum sum }
+{
+    sum % 65536 < 65521 && sum / 65536 < 65521
+}
+
+// Returns the sum from which the Adler-32 of a text continues to this one.
+fn sum_before(sum: u32, text: &[u8]) -> u32
+    requires { IsSum sum }
+    ensures is_sum { IsSum result }
+    ensures sum { adler_after result text.now ≡ sum }
+{
+    let mut a = sum % 65536;
+    let mut b = sum / 65536;
+    let mut at = text.len();
+    while at > 0 {
+        at -= 1;
+        b = (b + 65521 - a) % 65521;
+        a = (a + 65521 - u32::from(text[at])) % 65521;
+    }
+    b * 65536 + a
+}
+
+/// Returns the sum from which a file's first checksum has to continue, so that the sum after these
+/// texts is this one.
+pub fn start_before(sum: u32, texts: &[Vec<u8>]) -> u32
+    requires { IsSum sum }
+    ensures is_sum { IsSum result }
+    ensures sum { sum_after_all result (map (λ t. t.items) texts.now) ≡ sum }
+{
+    let mut sum = sum;
+    let mut at = texts.len();
+    while at > 0 {
+        at -= 1;
+        sum = sum_before(sum, &texts[at]);
+    }
+    sum
+}
+
 // Returns the hexadecimal digit of a number below 16.
 fn digit_of(n: u32) -> u8
     requires { n < 16 }
@@ -30,8 +71,8 @@ fn digit_of(n: u32) -> u8
     if n < 10 { 48 + n as u8 } else { 87 + n as u8 }
 }
 
-// Returns a checksum as eight hexadecimal digits.
-fn digits_of(sum: u32) -> [u8; 8]
+/// Returns a checksum as eight hexadecimal digits.
+pub fn digits_of(sum: u32) -> [u8; 8]
     ensures { result ≡ digits sum }
 {
     [
@@ -44,6 +85,39 @@ fn digits_of(sum: u32) -> [u8; 8]
         digit_of(sum / 16 % 16),
         digit_of(sum % 16),
     ]
+}
+
+// Returns the number of a hexadecimal digit, and 0 for any other byte.
+fn number_of(byte: u8) -> u32
+    ensures small { result < 16 }
+    ensures number { (n : ℕ) → n < 16 → byte ≡ digit n → result ≡ n }
+{
+    match byte {
+        48..=57 => u32::from(byte) - 48,
+        97..=102 => u32::from(byte) - 87,
+        _ => 0,
+    }
+}
+
+/// Returns the checksum of which these are the eight digits.
+pub fn sum_of(bytes: &[u8]) -> Option<u32>
+    requires { length bytes.now ≡ 8 }
+    ensures some { IfSome result (λ sum. bytes.now ≡ digits sum) }
+    ensures none { IfNone result ((sum : ℕ) → sum < 2 ^ 32 → bytes.now ≡ digits sum → ⊥) }
+{
+    let sum = number_of(bytes[0]) * 268435456
+        + number_of(bytes[1]) * 16777216
+        + number_of(bytes[2]) * 1048576
+        + number_of(bytes[3]) * 65536
+        + number_of(bytes[4]) * 4096
+        + number_of(bytes[5]) * 256
+        + number_of(bytes[6]) * 16
+        + number_of(bytes[7]);
+    if bytes == digits_of(sum).as_slice() {
+        Some(sum)
+    } else {
+        None
+    }
 }
 
 /// Returns the text after the checksum in front of it, and that checksum, if it matches one that

@@ -64,6 +64,25 @@ pub fn close<D: Device>(device: &mut D, end: usize) -> Result<(), DeviceError>
     Ok(())
 }
 
+/// Closes a file that has these bytes, unless a clear commit byte ends it there already: then
+/// nothing is written.
+pub fn close_if_open<D: Device>(device: &mut D, bytes: &[u8], end: usize) -> Result<(), DeviceError>
+    requires within { end ≤ length (D.seen device.old) }
+    requires bytes { bytes.now ≡ D.seen device.old }
+    requires durable { Only (D.seen device.old) (D.may_leave device.old) }
+    ensures closed { OnOk result (D.seen device.new ≡ take end (D.seen device.old) ++ 0 ∷ []) }
+    ensures durable { OnOk result (Only (D.seen device.new) (D.may_leave device.new)) }
+    ensures any_moment { LeavesOnly D.moment D.left_since device.old device.new
+        (IsClosing (D.seen device.old) end) }
+    ensures failed { IsErrOf result DeviceError.Failed
+        → D.faults device.old < D.faults device.new }
+{
+    if &bytes[end..] == [0].as_slice() {
+        return Ok(());
+    }
+    close(device, end)
+}
+
 /// Sets the commit byte at this index: from then on the block after it counts.
 pub fn set_commit_byte<D: Device>(device: &mut D, commit_byte: usize) -> Result<(), DeviceError>
     requires within { commit_byte < length (D.seen device.old) }

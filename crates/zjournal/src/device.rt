@@ -1,6 +1,6 @@
 //! A file as a journal sees it: what a read returns, and what a crash may leave.
 
-ghost use Rattle.std.specs.Prelude.{◌≡◌, ◌≤◌, ◌++◌, [], Bool, List, ℕ, length, take, IfOk, OnOk};
+ghost use Rattle.std.specs.Prelude.{◌≡◌, ◌≤◌, ◌++◌, [], ◌∷◌, Bool, List, ℕ, length, take, IfOk, OnOk};
 ghost use Rattle.zjournal.specs.declared.device.DeviceError.TheVariants.{Memory};
 ghost use Rattle.zjournal.specs.Device.{Only, Follows, Torn, Cut, Holds, Elapses, HasCause};
 ghost use Rattle.zjournal.specs.Device.{IsEither};
@@ -35,7 +35,7 @@ impl<T: Drop> From<AllocFailed<T>> for DeviceError {
     }
 }
 
-/// One file on a disk, and a new one beside it that may replace it.
+/// One file on a disk, which may have parts, and a new one beside it that may replace it.
 pub trait Device {
     /// The bytes that a read returns.
     ghost seen: { Self → List ℕ };
@@ -127,6 +127,18 @@ pub trait Device {
         ensures durable { OnOk result (Only (beside self.old) (may_leave self.new)) }
         ensures crash { (c : List ℕ) → may_leave self.new c
             → IsEither (may_leave self.old) (beside self.old) c }
+        ensures time { Elapses (moment self.old) (moment self.new)
+            (left_since self.old) (left_since self.new) (may_leave self.new) }
+        ensures cause { HasCause (faults self.old) (faults self.new) result }
+        ensures same { asks_disk self.new ≡ asks_disk self.old };
+
+    /// Begins a new part of the file. What it holds is unchanged, and from now on it grows there. If
+    /// the part isn't begun, it grows where it did.
+    fn split(&mut self) -> Result<(), DeviceError>
+        requires ends { (front : List ℕ) × (seen self.old ≡ front ++ 0 ∷ []) }
+        requires durable { Only (seen self.old) (may_leave self.old) }
+        ensures seen { seen self.new ≡ seen self.old }
+        ensures crash { (c : List ℕ) → may_leave self.new c → may_leave self.old c }
         ensures time { Elapses (moment self.old) (moment self.new)
             (left_since self.old) (left_since self.new) (may_leave self.new) }
         ensures cause { HasCause (faults self.old) (faults self.new) result }

@@ -16,10 +16,10 @@ pub enum OpenError {
     /// The file doesn't begin as a journal does.
     #[error("not a journal")]
     NotJournal,
-    /// The journal has the format of this other version.
+    /// The journal has the format of this other version, which isn't an older one.
     #[error("a journal of version {0}")]
     Version(u8),
-    /// The journal is that of this program before the limits of a tree were part of its text.
+    /// The journal has the format of an older version of this program.
     #[error("a folder of an older version: ./zk upgrade FOLDER")]
     Old,
     /// The journal is that of another program.

@@ -7,64 +7,30 @@
 
 ghost use Rattle.std.specs.Prelude.{◌≡◌, ◌<◌, ◌≤◌, ◌≢◌, ◌++◌, [], ◌∷◌, List, ℕ, length};
 ghost use Rattle.std.specs.Prelude.{take, drop, IfOk, IfErr, IfSome, IfNone, IsErrOf, IsTrue, ◌↔◌};
-ghost use Rattle.zjournal.specs.declared.format.Format.{Format};
-ghost use Rattle.zjournal.specs.declared.format.Format.TheVariants.{Running};
-ghost use Rattle.zjournal.specs.Journal.{head, version_of, word_of, older_word, IsUnmade, IsUnopened};
-ghost use Rattle.zjournal.specs.Journal.{IsUnopenedIn};
+ghost use Rattle.zjournal.specs.Checksum.{IsSum, digits};
+ghost use Rattle.zjournal.specs.Journal.{head, word, IsUnmade, IsUnopened};
 ghost use Rattle.zjournal.specs.Faults.{IsSuch};
 
 use crate::OpenError;
-use crate::format::Format;
+use crate::checksum::{digits_of, is_sum, sum_of};
 use crate::place::HEAD_END;
 
-// What a journal of version 2 is of.
-const WORD: [u8; 12] = *b"tree of zk 2";
+// The version of the format.
+const VERSION: u8 = 3;
 
-// What a journal of version 2 is of, if the older program made it.
-const OLDER_WORD: [u8; 12] = *b"tree of zk  ";
+// What a journal is of.
+const WORD: [u8; 4] = *b"tree";
 
-// Returns the number of a format's version.
-fn version_of(format: Format) -> u8
-    ensures { result ≡ version_of format }
+/// Returns the head's block without its commit byte, and with the next, clear one. The first
+/// checksum of the file continues from `start`.
+pub fn head_block(start: u32, servers: u8) -> [u8; 34]
+    ensures { result ≡ head start servers ++ 0 ∷ 0 ∷ [] }
 {
-    match format {
-        Format::Separate => 1,
-        Format::Running => 2,
-    }
-}
-
-// Returns the format of this version, if there is one.
-fn format_of(version: u8) -> Option<Format>
-    ensures some { IfSome result (λ format. version ≡ version_of format) }
-    ensures none { IfNone result ((format : Format) → version ≡ version_of format → ⊥) }
-{
-    match version {
-        1 => Some(Format::Separate),
-        2 => Some(Format::Running),
-        _ => None,
-    }
-}
-
-// Returns the word in a head of this format.
-fn word_of(format: Format) -> [u8; 12]
-    ensures { result ≡ word_of format }
-{
-    match format {
-        Format::Separate => *b"            ",
-        Format::Running => WORD,
-    }
-}
-
-/// Returns the head's block without its commit byte, and with the next, clear one.
-pub fn head_block(format: Format, servers: u8) -> [u8; 34]
-    ensures { result ≡ head format servers ++ 0 ∷ 0 ∷ [] }
-{
-    let version = version_of(format);
-    let word = word_of(format);
+    let sum = digits_of(start);
     [
         b'j', b'e', b'l', b'l', b'q', b'u', b'p', b'a', b's', b' ', b'j', b'o', b'u', b'r', b'n',
-        b'a', b'l', b' ', version, servers, word[0], word[1], word[2], word[3], word[4], word[5],
-        word[6], word[7], word[8], word[9], word[10], word[11], 0, 0,
+        b'a', b'l', b' ', VERSION, servers, WORD[0], WORD[1], WORD[2], WORD[3], sum[0], sum[1],
+        sum[2], sum[3], sum[4], sum[5], sum[6], sum[7], 0, 0,
     ]
 }
 
@@ -98,57 +64,45 @@ fn behind<'a>(bytes: &'a [u8], front: &[u8]) -> Option<&'a [u8]>
     if start == front { Some(rest) } else { None }
 }
 
-// Returns whether the whole head of this format is written, but its commit byte isn't set.
-fn is_unopened_in(bytes: &[u8], format: Format, servers: u8) -> bool
-    ensures { IsTrue result ↔ IsUnopenedIn format servers bytes.now }
+/// Returns whether the whole head of a new file is written, but its commit byte isn't set.
+pub fn is_unopened(bytes: &[u8], servers: u8) -> bool
+    ensures { IsTrue result ↔ IsUnopened servers bytes.now }
 {
     match first(bytes) {
-        Some((commit_byte, rest)) => {
-            commit_byte != 1 && rest == head_block(format, servers).as_slice()
-        }
+        Some((commit_byte, rest)) => commit_byte != 1 && rest == head_block(1, servers).as_slice(),
         None => false,
     }
 }
 
-/// Returns the format whose whole head is written, if its commit byte isn't set.
-pub fn unopened_format(bytes: &[u8], servers: u8) -> Option<Format>
-    ensures some { IfSome result (λ format. IsUnopenedIn format servers bytes.now) }
-    ensures none { IfNone result (IsUnopened servers bytes.now → ⊥) }
+// Returns whether this is the end of a head with another word.
+fn has_other_word(last: &[u8]) -> bool
+    ensures { IsTrue result ↔ ((4 ≤ length last.now) × (take 4 last.now ≢ word)) }
 {
-    if is_unopened_in(bytes, Format::Running, servers) {
-        return Some(Format::Running);
-    }
-    if is_unopened_in(bytes, Format::Separate, servers) {
-        return Some(Format::Separate);
-    }
-    None
+    last.len() >= 4 && &last[..4] != WORD.as_slice()
 }
 
-// Returns whether this is the end of a head of version 2 that has another word.
-fn has_other_word(format: Format, last: &[u8]) -> bool
-    ensures { IsTrue result
-        ↔ ((format ≡ Running) × (12 ≤ length last.now) × (take 12 last.now ≢ word_of Running)) }
+// Returns the sum at the end of a head, after which its block ends.
+fn start_in(last: &[u8]) -> Option<u32>
+    ensures some { IfSome result (λ start. IsSum start
+        × (last.now ≡ word ++ digits start ++ 0 ∷ drop 13 last.now)) }
+    ensures none { IfNone result ((start : ℕ) (more : List ℕ) → IsSum start
+        → last.now ≡ word ++ digits start ++ 0 ∷ more → ⊥) }
 {
-    match format {
-        Format::Separate => false,
-        Format::Running => last.len() >= 12 && &last[..12] != word_of(format).as_slice(),
+    let rest = behind(last, &WORD)?;
+    if rest.len() < 9 || rest[8] != 0 {
+        return None;
     }
+    let start = sum_of(&rest[..8])?;
+    if is_sum(start) { Some(start) } else { None }
 }
 
-// Returns whether this is the end of a head that the older program made.
-fn has_older_word(last: &[u8]) -> bool
-    requires { 12 ≤ length last.now }
-    ensures { IsTrue result ↔ (take 12 last.now ≡ older_word) }
-{
-    &last[..12] == OLDER_WORD.as_slice()
-}
-
-/// Returns the format of a journal for this number of servers, if its head is that of one.
-pub fn check_head(bytes: &[u8], servers: u8) -> Result<Format, OpenError>
+/// Returns the sum from which the first checksum of a journal for this number of servers continues,
+/// if its head is that of one.
+pub fn check_head(bytes: &[u8], servers: u8) -> Result<u32, OpenError>
     requires made { IsUnmade servers bytes.now → ⊥ }
     requires opened { IsUnopened servers bytes.now → ⊥ }
-    ensures ok { IfOk result (λ format.
-        bytes.now ≡ 1 ∷ (head format servers ++ 0 ∷ drop 34 bytes.now)) }
+    ensures ok { IfOk result (λ start. IsSum start
+        × (bytes.now ≡ 1 ∷ (head start servers ++ 0 ∷ drop 34 bytes.now))) }
     ensures err { IfErr result (IsSuch servers bytes.now) }
     ensures disk { IsErrOf result OpenError.Failed → ⊥ }
 {
@@ -161,20 +115,28 @@ pub fn check_head(bytes: &[u8], servers: u8) -> Result<Format, OpenError>
     let Some((given, last)) = first(more) else {
         return Err(OpenError::NotJournal);
     };
-    let Some(format) = format_of(version) else {
-        return Err(OpenError::Version(version));
-    };
-    if has_other_word(format, last) {
-        if has_older_word(last) {
-            return Err(OpenError::Old);
-        }
+    if version != VERSION {
+        return Err(other_version(version));
+    }
+    if has_other_word(last) {
         return Err(OpenError::Other);
     }
     if given != servers {
         return Err(OpenError::Servers(given));
     }
-    match behind(last, &head_block(format, servers)[20..33]) {
-        Some(_) => Ok(format),
+    match start_in(last) {
+        Some(start) => Ok(start),
         None => Err(OpenError::Damaged(0)),
+    }
+}
+
+// Returns why a journal of another version isn't opened.
+fn other_version(version: u8) -> OpenError
+    ensures old { 0 < version → version < 3 → result ≡ OpenError.Old }
+    ensures other { (0 < version → version < 3 → ⊥) → result ≡ OpenError.Version version }
+{
+    match version {
+        1 | 2 => OpenError::Old,
+        _ => OpenError::Version(version),
     }
 }

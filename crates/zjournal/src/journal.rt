@@ -8,9 +8,11 @@ ghost use Rattle.std.specs.Prelude.{◌≡◌, ◌<◌, ◌≤◌, ◌^◌, ◌+
 ghost use Rattle.std.specs.Prelude.{OnOk, IfErr, IsErrOf};
 ghost use Rattle.zjournal.specs.Device.{LeavesOnly};
 ghost use Rattle.zjournal.specs.Blocks.{IsText};
+ghost use Rattle.zjournal.specs.Checksum.{IsSum};
 ghost use Rattle.zjournal.specs.Journal.{IsAtRest, IsOpen, IsSound, IsWithOrWithout};
-ghost use Rattle.zjournal.specs.Journal.{device_of, format_of, size_of};
+ghost use Rattle.zjournal.specs.Journal.{Keeps, device_of, size_of, start_of, sum_of};
 ghost use Rattle.zjournal.specs.Puts.{IsLeftBy};
+ghost use Rattle.zjournal.specs.Renewal.{IsOnlyCalled};
 
 use crate::checksum::{block_of, sum_after};
 use crate::commit_bytes::add_block;
@@ -55,10 +57,18 @@ impl<D: Device> Journal<D> {
         self.place.end // of the blocks
     }
 
+    /// Returns the sum from which the checksum of the next batch continues.
+    pub fn sum(&self) -> u32
+        ensures sum { result ≡ sum_of self.now }
+        ensures is_sum { (servers : ℕ) (batches : List (List ℕ))
+            → IsAtRest D.seen D.may_leave servers batches self.now → IsSum result }
+    {
+        self.place.sum
+    }
+
     /// Appends a batch. At `Ok` it is durable: from then on every crash leaves a file that holds
     /// it. After `Failed`, and sometimes after `Memory`, the journal takes nothing more. The file
-    /// then has the batch or hasn't; opening it again shows which. The format of the file is
-    /// unchanged.
+    /// then has the batch or hasn't; opening it again shows which.
     pub fn put(&mut self, batch: &[u8]) -> Result<(), PutError>
         requires { IsSound D.seen D.may_leave self.old }
         ensures kept { (servers : ℕ) (batches : List (List ℕ))
@@ -69,7 +79,7 @@ impl<D: Device> Journal<D> {
             → IsAtRest D.seen D.may_leave servers batches self.old
             → LeavesOnly D.moment D.left_since (device_of self.old) (device_of self.new)
             (IsWithOrWithout servers batches batch.now) }
-        ensures format { format_of self.new ≡ format_of self.old }
+        ensures start { start_of self.new ≡ start_of self.old }
         ensures sound { IsSound D.seen D.may_leave self.new }
         ensures open { OnOk result (IsOpen self.old × IsOpen self.new) }
         ensures failed { IsErrOf result PutError.Failed
@@ -95,6 +105,33 @@ impl<D: Device> Journal<D> {
         add_block(&mut self.device, self.place.end, block)?;
         self.place = self.place.after(block.len(), sum);
         self.is_open = true;
+        Ok(())
+    }
+
+    /// Begins a new part of the file. What the file holds is unchanged, and from now on it grows
+    /// there. If the part isn't begun, the journal takes batches as before.
+    pub fn split(&mut self) -> Result<(), PutError>
+        requires { IsSound D.seen D.may_leave self.old }
+        ensures rest { (servers : ℕ) (batches : List (List ℕ))
+            → IsAtRest D.seen D.may_leave servers batches self.old
+            → IsAtRest D.seen D.may_leave servers batches self.new }
+        ensures any_moment { (servers : ℕ) (batches : List (List ℕ))
+            → IsAtRest D.seen D.may_leave servers batches self.old
+            → LeavesOnly D.moment D.left_since (device_of self.old) (device_of self.new)
+            (Keeps servers batches) }
+        ensures only { IsOnlyCalled self.old self.new }
+        ensures sound { IsSound D.seen D.may_leave self.new }
+        ensures failed { IsErrOf result PutError.Failed
+            → D.faults (device_of self.old) < D.faults (device_of self.new) }
+        ensures closed { (IsOpen self.old → ⊥) → IsErrOf result PutError.Closed }
+        ensures open { IsErrOf result PutError.Closed → IsOpen self.old → ⊥ }
+        ensures not_text { IsErrOf result PutError.NotText → ⊥ }
+        ensures full { IsErrOf result PutError.Full → ⊥ }
+    {
+        if !self.is_open {
+            return Err(PutError::Closed);
+        }
+        self.device.split()?;
         Ok(())
     }
 }

@@ -11,14 +11,17 @@
 //! of the two, whole. If the new file can't be written, the journal continues with the old one.
 //!
 //! ```text
-//! journal.begin_renewal()?;
+//! journal.begin_renewal(start)?;
 //! journal.put_renewed(batch)?;                                // any number of them
 //! journal.end_renewal()?;                                     // now the new file is durable
 //! ```
 //!
-//! A file has one of two formats. A new file and a renewed one have version 2: its checksums run
-//! on, so a block that is missing shows at the next one. A file of version 1 is opened, and its
-//! format is unchanged. The head says what a file is of, and another program's isn't opened.
+//! Checksums run on, so a block that is missing shows at the next one. The head says what a file is
+//! of, and another program's isn't opened.
+//!
+//! A file may have parts, of which the last one grows (`split`). A new file can replace all parts
+//! but the last one: its head has the sum from which its checksums continue, so that it ends with
+//! the sum of the old ones (`start_before`).
 //!
 //! `specs/Device.antt` defines what a disk promises, and what a crash is. `specs/Journal.antt`
 //! defines which batches a file represents. A journal works over any `Device`. `MemoryFile` is one
@@ -42,7 +45,6 @@ mod content;
 mod device;
 mod fault;
 pub mod file;
-mod format;
 mod head;
 mod journal;
 pub mod laws;
@@ -56,6 +58,7 @@ mod renewal;
 mod rows;
 mod tearing;
 
+pub use checksum::start_before;
 pub use content::Content;
 pub use device::{Device, DeviceError};
 pub use fault::{OpenError, PutError};

@@ -295,4 +295,8 @@ impl Device for MemoryFile {
         self.sync()?; // now its name is durable
         Ok(())
     }
+
+    fn split(&mut self) -> Result<(), DeviceError> {
+        self.pass()
+    }
 }

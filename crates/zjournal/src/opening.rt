@@ -4,39 +4,36 @@
 //! A file is read whole, and its text is returned as one string. Batches are whole lines, so no
 //! caller needs to know where they began.
 //!
-//! The version of a file doesn't change. A new file, and one that is being made and has no whole
-//! head, gets version 2.
+//! The sum in a file's head doesn't change. In a new file, and in one that is being made, it is 1.
 //!
 //! What follows the last block that counts is one clear commit byte, or what a crash or a disk
-//! left. Where that is more than one byte it is a caller's to report it.
+//! left. Where that is more than one byte it is a caller's to report it. A file that ends as it
+//! should isn't written: it may be one that another process reads.
 
 ghost use Rattle.std.specs.Prelude.{◌≡◌, ◌<◌, ◌≤◌, ◌++◌, [], ◌∷◌, List, ℕ, length};
 ghost use Rattle.std.specs.Prelude.{IfOk, IfErr, OnOk, IsErrOf};
 ghost use Rattle.zjournal.specs.Device.{Only, LeavesOnly};
 ghost use Rattle.zjournal.specs.Blocks.{AreTexts, blocks, at_rest};
 ghost use Rattle.zjournal.specs.Journal.{holdings, IsUnmade, Represents, IsAtRest, IsOpen, IsSound};
-ghost use Rattle.zjournal.specs.Journal.{device_of, format_of, Keeps};
-ghost use Rattle.zjournal.specs.declared.format.Format.{Format};
-ghost use Rattle.zjournal.specs.declared.format.Format.TheVariants.{Running};
+ghost use Rattle.zjournal.specs.Journal.{device_of, start_of, Keeps};
 ghost use Rattle.zjournal.specs.Scan.{joined};
 ghost use Rattle.zjournal.specs.declared.fault.OpenError.TheVariants as open_fault;
 ghost use Rattle.zjournal.specs.Faults.{IsSuch, IsOfContent};
 ghost use Rattle.zjournal.specs.Opened.{IsRead};
 
-use crate::commit_bytes::{add_block, close, set_commit_byte};
-use crate::format::Format;
+use crate::commit_bytes::{add_block, close, close_if_open, set_commit_byte};
 use crate::head::head_block;
 use crate::place::{HEAD_END, Place};
 use crate::reading::{Found, look};
 use crate::{Content, Device, DeviceError, Journal, OpenError};
 use std::alloc::Global;
 
-// Makes a file that has nothing yet, in version 2.
+// Makes a file that has nothing yet.
 fn make<D: Device>(device: &mut D, servers: u8) -> Result<(), DeviceError>
     requires some { 0 < servers }
     requires unmade { IsUnmade servers (D.seen device.old) }
     requires durable { Only (D.seen device.old) (D.may_leave device.old) }
-    ensures made { OnOk result (D.seen device.new ≡ at_rest (holdings Running servers [])) }
+    ensures made { OnOk result (D.seen device.new ≡ at_rest (holdings 1 servers [])) }
     ensures durable { OnOk result (Only (D.seen device.new) (D.may_leave device.new)) }
     ensures any_moment { LeavesOnly D.moment D.left_since device.old device.new
         (Represents servers []) }
@@ -44,7 +41,7 @@ fn make<D: Device>(device: &mut D, servers: u8) -> Result<(), DeviceError>
         → D.faults device.old < D.faults device.new }
 {
     close(device, 0)?;
-    add_block(device, 0, &head_block(Format::Running, servers))
+    add_block(device, 0, &head_block(1, servers))
 }
 
 /// Reads the batches of a file that a crash may have left, and repairs its end. A crash meanwhile
@@ -59,10 +56,10 @@ pub fn open_file<D: Device>(
     ensures read { IfOk result (λ read. (batches : List (List ℕ))
         × Represents servers batches (D.seen device.old)
         × IsRead D.seen D.may_leave servers batches read.0.items read.1 device.new) }
-    ensures format { (batches : List (List ℕ)) (k : Keeps servers batches (D.seen device.old))
-        → IfOk result (λ read. read.1.format ≡ k.format) }
-    ensures new_format { IsUnmade servers (D.seen device.old)
-        → IfOk result (λ read. read.1.format ≡ Running) }
+    ensures start { (batches : List (List ℕ)) (k : Keeps servers batches (D.seen device.old))
+        → IfOk result (λ read. read.1.start ≡ k.start) }
+    ensures new_start { IsUnmade servers (D.seen device.old)
+        → IfOk result (λ read. read.1.start ≡ 1) }
     ensures any_moment { (batches : List (List ℕ)) → Represents servers batches (D.seen device.old)
         → LeavesOnly D.moment D.left_since device.old device.new (Represents servers batches) }
     ensures fault { IfErr result (IsSuch servers (D.seen device.old)) }
@@ -75,14 +72,14 @@ pub fn open_file<D: Device>(
     match look(alloc, &bytes, servers)? {
         Found::Unmade => {
             make(device, servers)?;
-            Ok((Vec::new(alloc), Place::first(Format::Running)))
+            Ok((Vec::new(alloc), Place::first(1)))
         }
-        Found::Unopened(format) => {
+        Found::Unopened => {
             set_commit_byte(device, 0)?;
-            Ok((Vec::new(alloc), Place::first(format)))
+            Ok((Vec::new(alloc), Place::first(1)))
         }
         Found::Cached(text, place) => {
-            close(device, place.end)?;
+            close_if_open(device, &bytes, place.end)?;
             Ok((text, place))
         }
     }
@@ -99,7 +96,7 @@ pub fn read_text<D: Device>(
     requires durable { Only (D.seen device.old) (D.may_leave device.old) }
     ensures text { IfOk result (λ read. (batches : List (List ℕ))
         × Represents servers batches (D.seen device.old) × (read.text.items ≡ joined batches)
-        × ((format : Format) → read.end ≡ length (blocks (holdings format servers batches)))) }
+        × ((start : ℕ) → read.end ≡ length (blocks (holdings start servers batches)))) }
     ensures size { IfOk result (λ read. read.size ≡ length (D.seen device.old)) }
     ensures seen { D.seen device.new ≡ D.seen device.old }
     ensures durable { Only (D.seen device.new) (D.may_leave device.new) }
@@ -113,12 +110,7 @@ pub fn read_text<D: Device>(
     let bytes = device.read(alloc)?;
     let size = bytes.len();
     match look(alloc, &bytes, servers)? {
-        Found::Unmade => Ok(Content {
-            text: Vec::new(alloc),
-            end: HEAD_END,
-            size,
-        }),
-        Found::Unopened(_) => Ok(Content {
+        Found::Unmade | Found::Unopened => Ok(Content {
             text: Vec::new(alloc),
             end: HEAD_END,
             size,
@@ -133,8 +125,7 @@ pub fn read_text<D: Device>(
 
 /// Opens the journal of a file that a crash may have left, or makes one of a new file. Returns it
 /// with the text of all batches. A crash meanwhile leaves a file that represents the same batches.
-/// The file's head holds the number of servers, at least 1. The format of a file is unchanged, and
-/// a new one has version 2. An `Err` returns the device.
+/// The file's head holds the number of servers, at least 1. An `Err` returns the device.
 pub fn open<D: Device>(
     alloc: Global,
     device: D,
@@ -147,10 +138,10 @@ pub fn open<D: Device>(
         × Represents servers batches (D.seen device)
         × IsAtRest D.seen D.may_leave servers batches opened.0
         × IsOpen opened.0 × (opened.1.items ≡ joined batches)) }
-    ensures format { (batches : List (List ℕ)) (k : Keeps servers batches (D.seen device))
-        → IfOk result (λ opened. format_of opened.0 ≡ k.format) }
-    ensures new_format { IsUnmade servers (D.seen device)
-        → IfOk result (λ opened. format_of opened.0 ≡ Running) }
+    ensures start { (batches : List (List ℕ)) (k : Keeps servers batches (D.seen device))
+        → IfOk result (λ opened. start_of opened.0 ≡ k.start) }
+    ensures new_start { IsUnmade servers (D.seen device)
+        → IfOk result (λ opened. start_of opened.0 ≡ 1) }
     ensures sound { IfOk result (λ opened. IsSound D.seen D.may_leave opened.0) }
     ensures any_moment { (batches : List (List ℕ)) → Represents servers batches (D.seen device)
         → IfOk result (λ opened. LeavesOnly D.moment D.left_since device (device_of opened.0)
@@ -172,7 +163,7 @@ pub fn open<D: Device>(
                 device,
                 servers,
                 place,
-                renewed: Place::first(Format::Running),
+                renewed: Place::first(1),
                 is_open: true,
             },
             text,

@@ -1,9 +1,6 @@
 //! Where the next block of a file goes.
 
 ghost use Rattle.std.specs.Prelude.{◌≡◌, ◌<◌, ◌+◌, ◌^◌};
-ghost use Rattle.zjournal.specs.Checksum.{next};
-
-use crate::format::Format;
 
 /// Where the head's block ends.
 pub const HEAD_END: usize = 34;
@@ -11,8 +8,8 @@ pub const HEAD_END: usize = 34;
 /// Where the next block of a file goes.
 #[derive(Clone, Copy)]
 pub struct Place {
-    /// The format of the file.
-    pub format: Format,
+    /// The sum from which the first checksum of the file continues.
+    pub start: u32,
     /// Where the blocks so far end.
     pub end: usize,
     /// The sum from which the checksum of the next block continues.
@@ -21,32 +18,29 @@ pub struct Place {
 
 impl Place {
     /// Returns the place after the head.
-    pub fn first(format: Format) -> Place
-        ensures format { result.format ≡ format }
+    pub fn first(start: u32) -> Place
+        ensures start { result.start ≡ start }
         ensures end { result.end ≡ 34 }
-        ensures sum { result.sum ≡ 1 }
+        ensures sum { result.sum ≡ start }
     {
         Place {
-            format,
+            start,
             end: HEAD_END,
-            sum: 1,
+            sum: start,
         }
     }
 
     /// Returns the place after a commit byte and a block of `len` bytes with this checksum.
     pub fn after(self, len: usize, sum: u32) -> Place
         requires { self.end + len < 2 ^ 64 }
-        ensures format { result.format ≡ self.format }
+        ensures start { result.start ≡ self.start }
         ensures end { result.end ≡ self.end + len }
-        ensures sum { result.sum ≡ next self.format sum }
+        ensures sum { result.sum ≡ sum }
     {
         Place {
-            format: self.format,
+            start: self.start,
             end: self.end + len,
-            sum: match self.format {
-                Format::Separate => 1,
-                Format::Running => sum,
-            },
+            sum,
         }
     }
 }

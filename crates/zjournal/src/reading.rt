@@ -6,8 +6,7 @@ ghost use Rattle.zjournal.specs.Found.{IsFound};
 
 use crate::OpenError;
 use crate::batches::batches;
-use crate::format::Format;
-use crate::head::{check_head, is_unmade, unopened_format};
+use crate::head::{check_head, is_unmade, is_unopened};
 use crate::place::Place;
 use std::alloc::Global;
 
@@ -16,8 +15,8 @@ use std::alloc::Global;
 pub enum Found {
     /// It has nothing yet but a part of its head.
     Unmade,
-    /// It has its head, in this format, but the first commit byte isn't set.
-    Unopened(Format),
+    /// It has its head, but the first commit byte isn't set.
+    Unopened,
     /// It holds batches: their text, and where the next block goes.
     Cached(Vec<u8>, Place),
 }
@@ -32,10 +31,10 @@ pub fn look(alloc: Global, bytes: &[u8], servers: u8) -> Result<Found, OpenError
     if is_unmade(bytes, servers) {
         return Ok(Found::Unmade);
     }
-    if let Some(format) = unopened_format(bytes, servers) {
-        return Ok(Found::Unopened(format));
+    if is_unopened(bytes, servers) {
+        return Ok(Found::Unopened);
     }
-    let format = check_head(bytes, servers)?;
-    let (text, place) = batches(alloc, bytes, Place::first(format))?;
+    let start = check_head(bytes, servers)?;
+    let (text, place) = batches(alloc, bytes, Place::first(start))?;
     Ok(Found::Cached(text, place))
 }

@@ -4,31 +4,33 @@
 //! A new file replaces the old one by name, so each moment has one whole file. A renewal is three
 //! calls and no value that holds the journal, so the caller can add one batch at a time. A new file
 //! that can't be begun or written leaves the old one as it was. So only the last call ends a journal.
-//! The new file has version 2, whatever the old one has.
+//!
+//! The sum from which the new file's checksums continue is chosen. So a new file can end with the
+//! same sum as the old one (`start_before`), and what followed the old one still continues.
 
 ghost use Rattle.std.specs.Prelude.{◌≡◌, ◌<◌, ◌≤◌, ◌^◌, ◌++◌, [], ◌∷◌, List, ℕ};
 ghost use Rattle.std.specs.Prelude.{OnOk, IfErr, IsErrOf};
 ghost use Rattle.zjournal.specs.Blocks.{IsText};
 ghost use Rattle.zjournal.specs.Device.{LeavesOnly};
-ghost use Rattle.zjournal.specs.Journal.{IsAtRest, IsOpen, IsSound, Keeps, device_of, format_of};
-ghost use Rattle.zjournal.specs.declared.format.Format.TheVariants.{Running};
+ghost use Rattle.zjournal.specs.Checksum.{IsSum};
+ghost use Rattle.zjournal.specs.Journal.{IsAtRest, IsOpen, IsSound, Keeps, device_of, start_of};
 ghost use Rattle.zjournal.specs.Puts.{IsLeftBy};
 ghost use Rattle.zjournal.specs.Renewal.{IsInRenewal, IsOldOrNew, IsRenewing, IsStoppedBy};
-ghost use Rattle.zjournal.specs.Renewal.{renewed_size_of};
+ghost use Rattle.zjournal.specs.Renewal.{renewed_size_of, renewed_start_of};
 
 use crate::beside::{add_open_block, begin_file, close_and_take};
 use crate::checksum::{block_of, sum_after};
-use crate::format::Format;
 use crate::limits::MAX_BYTES;
 use crate::place::Place;
 use crate::{Device, Journal, PutError};
 
 impl<D: Device> Journal<D> {
-    /// Begins a new file beside this one, for the same number of servers and with no batch yet. It
-    /// replaces an unfinished one. No crash changes the journal's own file. If it isn't begun, the
-    /// journal takes batches as before.
-    pub fn begin_renewal(&mut self) -> Result<(), PutError>
-        requires { IsSound D.seen D.may_leave self.old }
+    /// Begins a new file beside this one, for the same number of servers and with no batch yet. Its
+    /// first checksum continues from `start`. It replaces an unfinished one. No crash changes the
+    /// journal's own file. If it isn't begun, the journal takes batches as before.
+    pub fn begin_renewal(&mut self, start: u32) -> Result<(), PutError>
+        requires sound { IsSound D.seen D.may_leave self.old }
+        requires sum { IsSum start }
         ensures begun { (servers : ℕ) (batches : List (List ℕ))
             → IsOpen self.old → IsAtRest D.seen D.may_leave servers batches self.old
             → OnOk result (IsRenewing D.seen D.may_leave D.beside servers batches [] self.new) }
@@ -40,7 +42,7 @@ impl<D: Device> Journal<D> {
             → LeavesOnly D.moment D.left_since (device_of self.old) (device_of self.new)
             (Keeps servers batches) }
         ensures renewing { OnOk result (IsInRenewal D.seen D.may_leave D.beside self.new) }
-        ensures format { format_of self.new ≡ format_of self.old }
+        ensures start { OnOk result (renewed_start_of self.new ≡ start) }
         ensures sound { IsSound D.seen D.may_leave self.new }
         ensures open { OnOk result (IsOpen self.old × IsOpen self.new) }
         ensures failed { IsErrOf result PutError.Failed
@@ -54,8 +56,8 @@ impl<D: Device> Journal<D> {
         if !self.is_open {
             return Err(PutError::Closed);
         }
-        begin_file(&mut self.device, self.servers)?;
-        self.renewed = Place::first(Format::Running);
+        begin_file(&mut self.device, start, self.servers)?;
+        self.renewed = Place::first(start);
         Ok(())
     }
 
@@ -76,7 +78,7 @@ impl<D: Device> Journal<D> {
             → LeavesOnly D.moment D.left_since (device_of self.old) (device_of self.new)
             (Keeps servers batches) }
         ensures renewing { OnOk result (IsInRenewal D.seen D.may_leave D.beside self.new) }
-        ensures format { format_of self.new ≡ format_of self.old }
+        ensures start { renewed_start_of self.new ≡ renewed_start_of self.old }
         ensures sound { IsSound D.seen D.may_leave self.new }
         ensures open { OnOk result (IsOpen self.old × IsOpen self.new) }
         ensures failed { IsErrOf result PutError.Failed
@@ -105,15 +107,15 @@ impl<D: Device> Journal<D> {
     }
 
     /// Ends the new file, and replaces the old one with it. At `Ok` it is durable with its name:
-    /// from then on every crash leaves its batches, and no others. It has version 2. A crash
-    /// meanwhile leaves the old file or the new one, whole. After a fault the journal takes nothing
-    /// more, and the file is one of the two.
+    /// from then on every crash leaves its batches, and no others. A crash meanwhile leaves the old
+    /// file or the new one, whole. After a fault the journal takes nothing more, and the file is one
+    /// of the two.
     pub fn end_renewal(&mut self) -> Result<(), PutError>
         requires { IsInRenewal D.seen D.may_leave D.beside self.old }
         ensures renewed { (servers : ℕ) (batches next : List (List ℕ)) → IsOpen self.old
             → IsRenewing D.seen D.may_leave D.beside servers batches next self.old
             → OnOk result (IsAtRest D.seen D.may_leave servers next self.new) }
-        ensures format { OnOk result (format_of self.new ≡ Running) }
+        ensures start { OnOk result (start_of self.new ≡ renewed_start_of self.old) }
         ensures any_moment { (servers : ℕ) (batches next : List (List ℕ))
             → IsRenewing D.seen D.may_leave D.beside servers batches next self.old
             → LeavesOnly D.moment D.left_since (device_of self.old) (device_of self.new)

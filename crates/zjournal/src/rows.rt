@@ -2,10 +2,9 @@
 
 ghost use Rattle.std.specs.Prelude.{◌≡◌, [], ◌∷◌, ◌++◌, List, ℕ, codes, length};
 ghost use Rattle.zjournal.specs.Blocks.{at_rest, IsEnd};
-ghost use Rattle.zjournal.specs.Checksum.{adler_after, stamped, stamped_all};
-ghost use Rattle.zjournal.specs.declared.format.Format.TheVariants.{Separate, Running};
+ghost use Rattle.zjournal.specs.Checksum.{adler_after, stamped, stamped_all, sum_after_all};
 ghost use Rattle.zjournal.specs.Device.{Cut, IsEither, Torn};
-ghost use Rattle.zjournal.specs.declared.fault.OpenError.TheVariants.{Old, Other};
+ghost use Rattle.zjournal.specs.declared.fault.OpenError.TheVariants.{Damaged, Old, Other};
 ghost use Rattle.zjournal.specs.Faults.{IsSuch};
 ghost use Rattle.zjournal.specs.Journal.{head, head_of, holdings, IsUnmade, Keeps};
 ghost use Rattle.zjournal.specs.Renewal.{IsOldOrNew};
@@ -18,31 +17,44 @@ pub fn texts_have_checksums()
     ensures stamped { stamped 1 (codes "Wikipedia") ≡ codes "11e60398Wikipedia" }
 {}
 
-/// Two texts in each version: in version 2 the second checksum is that of both texts.
+/// Two texts: the second checksum is that of both. One text after another sum, with the same sum
+/// at its end.
 pub fn checksums_run_on()
-    ensures separate { stamped_all Separate 1 (codes "a" ∷ codes "b" ∷ [])
-        ≡ codes "00620062a" ∷ codes "00630063b" ∷ [] }
-    ensures running { stamped_all Running 1 (codes "a" ∷ codes "b" ∷ [])
+    ensures running { stamped_all 1 (codes "a" ∷ codes "b" ∷ [])
         ≡ codes "00620062a" ∷ codes "012600c4b" ∷ [] }
+    ensures both { sum_after_all 1 (codes "a" ∷ codes "b" ∷ []) ≡ 19267780 }
+    ensures other { sum_after_all 6422625 (codes "c" ∷ []) ≡ 19267780 }
 {}
 
-/// In version 2 a file without its first block holds no batches, nor does one whose blocks were
-/// swapped.
+/// A file without its first block holds no batches, nor does one whose blocks were swapped.
 pub fn missing_blocks_are_seen()
-    ensures head { head Running 3 ≡ codes "jellqupas journal " ++ 2 ∷ 3 ∷ codes "tree of zk 2" }
+    ensures head { head 1 3 ≡ codes "jellqupas journal " ++ 3 ∷ 3 ∷ codes "tree00000001" }
     ensures both { Keeps 3 (codes "a" ∷ codes "b" ∷ [])
-        (at_rest (head Running 3 ∷ codes "00620062a" ∷ codes "012600c4b" ∷ [])) }
+        (at_rest (head 1 3 ∷ codes "00620062a" ∷ codes "012600c4b" ∷ [])) }
     ensures first_missing { (batches : List (List ℕ))
-        → Keeps 3 batches (at_rest (head Running 3 ∷ codes "012600c4b" ∷ [])) → ⊥ }
+        → Keeps 3 batches (at_rest (head 1 3 ∷ codes "012600c4b" ∷ [])) → ⊥ }
     ensures other_order { (batches : List (List ℕ)) → Keeps 3 batches
-        (at_rest (head Running 3 ∷ codes "012600c4b" ∷ codes "00620062a" ∷ [])) → ⊥ }
+        (at_rest (head 1 3 ∷ codes "012600c4b" ∷ codes "00620062a" ∷ [])) → ⊥ }
 {}
 
-/// A file of the older program, one of another program, and one of this one.
-pub fn words_are_compared()
-    ensures older { IsSuch 3 (1 ∷ head_of 2 3 (codes "tree of zk  " ++ 0 ∷ 0 ∷ [])) Old }
-    ensures other { IsSuch 3 (1 ∷ head_of 2 3 (codes "tree of zq  " ++ 0 ∷ 0 ∷ [])) Other }
-    ensures ours { IsSuch 3 (1 ∷ head_of 2 3 (codes "tree of zk 2" ++ 0 ∷ 0 ∷ [])) Old → ⊥ }
+/// A file whose checksums continue from another sum holds a text, and after it one that followed two
+/// others.
+pub fn files_continue_from_a_sum()
+    ensures head { head 6422625 3
+        ≡ codes "jellqupas journal " ++ 3 ∷ 3 ∷ codes "tree00620061" }
+    ensures before { Keeps 3 (codes "a" ∷ codes "b" ∷ codes "d" ∷ []) (at_rest
+        (head 1 3 ∷ codes "00620062a" ∷ codes "012600c4b" ∷ codes "024e0128d" ∷ [])) }
+    ensures after { Keeps 3 (codes "c" ∷ codes "d" ∷ []) (at_rest
+        (head 6422625 3 ∷ codes "012600c4c" ∷ codes "024e0128d" ∷ [])) }
+{}
+
+/// A file of an older program, one of another program, one of this one, and one whose head has no
+/// sum.
+pub fn heads_are_compared()
+    ensures older { IsSuch 3 (1 ∷ head_of 2 3 (codes "tree of zk 2" ++ 0 ∷ 0 ∷ [])) Old }
+    ensures other { IsSuch 3 (1 ∷ head_of 3 3 (codes "wood00000001" ++ 0 ∷ 0 ∷ [])) Other }
+    ensures ours { IsSuch 3 (1 ∷ head_of 3 3 (codes "tree00000001" ++ 0 ∷ 0 ∷ [])) Old → ⊥ }
+    ensures no_sum { IsSuch 3 (1 ∷ head_of 3 3 (codes "treefff10000" ++ 0 ∷ 0 ∷ [])) (Damaged 0) }
 {}
 
 /// A file at rest: blocks, and a clear commit byte.
@@ -67,8 +79,7 @@ pub fn files_are_made()
     ensures one_byte { IsUnmade 3 (74 ∷ []) }
     ensures clear_commit_byte { IsUnmade 3 (0 ∷ 1 ∷ 2 ∷ []) }
     ensures other { IsUnmade 3 (74 ∷ 101 ∷ []) → ⊥ }
-    ensures made { Keeps 3 [] (at_rest (holdings Running 3 [])) }
-    ensures made_before { Keeps 3 [] (at_rest (holdings Separate 3 [])) }
+    ensures made { Keeps 3 [] (at_rest (holdings 1 3 [])) }
 {}
 
 /// A torn write leaves what is before its range, and a cut leaves a prefix of the file.
@@ -86,5 +97,5 @@ pub fn new_files_take_the_place()
     ensures next { IsEither (λ c. c ≡ 1 ∷ []) (2 ∷ 3 ∷ []) (2 ∷ 3 ∷ []) }
     ensures part { IsEither (λ c. c ≡ 1 ∷ []) (2 ∷ 3 ∷ []) (2 ∷ []) → ⊥ }
     ensures nothing { IsEither (λ c. c ≡ 1 ∷ []) (2 ∷ 3 ∷ []) [] → ⊥ }
-    ensures renewed { IsOldOrNew 3 ((97 ∷ []) ∷ []) [] (at_rest (holdings Running 3 [])) }
+    ensures renewed { IsOldOrNew 3 ((97 ∷ []) ∷ []) [] (at_rest (holdings 1 3 [])) }
 {}

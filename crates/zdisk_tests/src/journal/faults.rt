@@ -62,9 +62,10 @@ fn other_files_are_reported(rt: HostRuntime) -> Result<(), Fail> {
     );
     let other = made(alloc, 5).ok_or("a journal for five")?;
     assert_eq!(rt; fault_of(alloc, &other), Some(OpenError::Servers(5)));
-    assert_eq!(rt; fault_with(alloc, 19, 3), Some(OpenError::Version(3)));
-    assert_eq!(rt; fault_with(alloc, 25, 33), Some(OpenError::Other));
-    assert_eq!(rt; fault_with(alloc, 32, 32), Some(OpenError::Old));
+    assert_eq!(rt; fault_with(alloc, 19, 1), Some(OpenError::Old));
+    assert_eq!(rt; fault_with(alloc, 19, 2), Some(OpenError::Old));
+    assert_eq!(rt; fault_with(alloc, 19, 4), Some(OpenError::Version(4)));
+    assert_eq!(rt; fault_with(alloc, 24, 33), Some(OpenError::Other));
     Ok(())
 }
 
@@ -72,8 +73,8 @@ fn other_files_are_reported(rt: HostRuntime) -> Result<(), Fail> {
 fn damage_is_reported_with_its_place(rt: HostRuntime) -> Result<(), Fail> {
     let alloc = rt.alloc();
     assert_eq!(rt; fault_with(alloc, 33, 33), Some(OpenError::Damaged(0)));
-    // A head of version 1 has no word.
-    assert_eq!(rt; fault_with(alloc, 19, 1), Some(OpenError::Damaged(0)));
+    // The sum in a head has eight digits.
+    assert_eq!(rt; fault_with(alloc, 25, 33), Some(OpenError::Damaged(0)));
     assert_eq!(rt; fault_with(alloc, 36, 33), Some(OpenError::Damaged(34)));
     assert_eq!(rt; fault_with(alloc, 45, 33), Some(OpenError::Damaged(34)));
     // The first block has 29 bytes: a commit byte, a checksum, 19 bytes of text, and its end.

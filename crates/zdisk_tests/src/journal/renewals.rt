@@ -26,7 +26,7 @@ fn renew<D: Device>(alloc: Global, journal: &mut Journal<D>, count: usize) -> bo
     requires { IsSound D.seen D.may_leave journal.old }
     ensures { IsSound D.seen D.may_leave journal.new }
 {
-    if journal.begin_renewal().is_err() {
+    if journal.begin_renewal(1).is_err() {
         return false;
     }
     for i in 0..count {
@@ -191,7 +191,7 @@ fn an_unfinished_renewal_counts_for_nothing(rt: HostRuntime) -> Result<(), Fail>
         return Err("a journal".into());
     };
     assert!(rt; journal.put(b"abc").is_ok());
-    assert!(rt; journal.begin_renewal().is_ok());
+    assert!(rt; journal.begin_renewal(1).is_ok());
     assert!(rt; journal.put_renewed(b"x").is_ok());
     let text = text_in(alloc, &journal.device().current().disk, 7).ok_or("a text")?;
     assert_eq!(rt; text.as_slice(), b"abc".as_slice());
@@ -207,7 +207,7 @@ fn other_batches_are_refused(rt: HostRuntime) -> Result<(), Fail> {
     let Ok((mut journal, _)) = open(alloc, MemoryFile::new(alloc, &[], 7, u64::MAX)?, 3) else {
         return Err("a journal".into());
     };
-    assert!(rt; journal.begin_renewal().is_ok());
+    assert!(rt; journal.begin_renewal(1).is_ok());
     assert_eq!(rt; journal.put_renewed(b"a\0b"), Err(PutError::NotText));
     Ok(())
 }

@@ -52,7 +52,7 @@ IsOfRenewal opening.NotRecords = ⊥
 IsOfRenewal (opening.Limits e) = ⊥
 IsOfRenewal (opening.Renewal e) = Unit {0}
 
--- the measure of the last compaction: the bytes of the file that replaced another
+-- from where the growth is measured: the end of the file that replaced another
 abbrev pub measure_if : {D : Type 0} → Bool → Journal D → ℕ
 measure_if false journal = 0
 measure_if true journal = size_of journal

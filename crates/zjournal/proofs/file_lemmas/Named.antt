@@ -8,7 +8,7 @@ use Rattle.zjournal.specs.file.Moments.{LeftSince, left_now}
 use Rattle.zjournal.proofs.file_lemmas.Seen.{seen_may, kept_only}
 
 -- one call more
-one_more : (earlier : List Event) (e : Event) → Elapses (length earlier) (length (e ∷ earlier)) (LeftSince earlier) (LeftSince (e ∷ earlier)) (MayLeave (e ∷ earlier))
+pub one_more : (earlier : List Event) (e : Event) → Elapses (length earlier) (length (e ∷ earlier)) (LeftSince earlier) (LeftSince (e ∷ earlier)) (MayLeave (e ∷ earlier))
 one_more earlier e = record {
   later = omega arith;
   nothing_else = λ t c le left. ⊎_elim (λ may. inr may) (λ before. inl before.1) left;

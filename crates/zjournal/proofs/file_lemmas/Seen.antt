@@ -1,10 +1,10 @@
 -- What is read is what each change made whole, or not at all.
-use Rattle.std.proofs.Common.{◌≡◌, inl, inr, refl, sym, ◌∙◌, ap, subst, Bool, true, false, not, ◌&&◌, ℕ, zero, suc, ◌+◌, ◌≤◌, if◌then◌else◌, List, [], ◌∷◌, ◌++◌, length, take, drop, arith, append_assoc, length-append, length-take, length-drop}
+use Rattle.std.proofs.Common.{◌≡◌, inl, inr, refl, sym, ◌∙◌, ap, subst, Bool, true, false, not, ◌&&◌, ℕ, zero, suc, ◌+◌, ◌==◌, ◌≤◌, if◌then◌else◌, List, [], ◌∷◌, ◌++◌, length, take, drop, arith, append_assoc, length-append, length-take, length-drop}
 use mathlib.Core.Bool.{true≢false}
 use Rattle.std.proofs.lemmas.List.{drop_at, drop_all}
 use Rattle.zjournal.specs.Device.{Torn, Cut}
 use Rattle.zjournal.specs.declared.file.mode.SyncMode.{SyncMode}
-use Rattle.zjournal.specs.file.Events.{Event, FileModel, Reaches, IsLeftOf, after_call, keeps_file, keeps_name, replay, synced, MayLeave}
+use Rattle.zjournal.specs.file.Events.{Event, FileModel, Reaches, IsLeftOf, after_call, after_split, keeps_file, keeps_name, replay, synced, MayLeave}
 use Rattle.zjournal.proofs.file_lemmas.Unchanged.{torn_not, cut_not}
 
 take_front : (k at : ℕ) (file rest : List ℕ) → k ≤ at → k ≤ length file → take k (take at file ++ rest) ≡ take k file
@@ -56,6 +56,17 @@ whole_left false bytes = tt
 abbrev IsLeft : FileModel → Type 0
 IsLeft m = Reaches m.kept m.changes m.seen
 
+-- a new part has the name, and the changes are the same, or a crash leaves anything
+part_left : (durable : Bool) (m : FileModel) → IsLeft m → Reaches m.kept (if durable then m.changes else inr (inr (false, m.seen)) ∷ m.changes) m.seen
+part_left true m left = left
+part_left false m left = (m.seen, left, inl refl)
+
+split_left : (call : ℕ) (ok : Bool) (m : FileModel) → IsLeft m → IsLeft (after_split call ok m)
+split_left zero ok m left = left
+split_left (suc zero) ok m left = left
+split_left (suc (suc zero)) ok m left = part_left (m.part == 2) m left
+split_left (suc (suc (suc more))) ok m left = left
+
 after : (which at : ℕ) (ok : Bool) (bytes : List ℕ) (m : FileModel) → IsLeft m → IsLeft (after_call which at ok bytes m)
 after zero at ok bytes m left = refl
 after (suc zero) at true bytes m left = (m.seen, left, torn_whole at bytes m.seen)
@@ -69,7 +80,8 @@ after (suc (suc (suc (suc (suc (suc zero)))))) at ok bytes m left = left
 after (suc (suc (suc (suc (suc (suc (suc zero))))))) at ok bytes m left = left
 after (suc (suc (suc (suc (suc (suc (suc (suc zero)))))))) at true bytes m left = (m.seen, left, inr (whole_left m.is_whole m.beside))
 after (suc (suc (suc (suc (suc (suc (suc (suc zero)))))))) at false bytes m left = (m.seen, left, inl refl)
-after (suc (suc (suc (suc (suc (suc (suc (suc (suc more))))))))) at ok bytes m left = settled (keeps_name ok m) m left
+after (suc (suc (suc (suc (suc (suc (suc (suc (suc zero))))))))) at ok bytes m left = settled (keeps_name ok m) m left
+after (suc (suc (suc (suc (suc (suc (suc (suc (suc (suc call)))))))))) at ok bytes m left = split_left call ok m left
 
 pub seen_may : (events : List Event) → MayLeave events (replay events).seen
 seen_may [] = refl

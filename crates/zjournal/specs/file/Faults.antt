@@ -2,7 +2,7 @@
 use Rattle.std.specs.Prelude.{ℕ, List, codes}
 use Rattle.zjournal.specs.declared.file.fault.FileFault.{FileFault}
 use Rattle.zjournal.specs.declared.file.fault.FileFault.TheVariants.{Memory, InUse, NotFile, Denied, NoParent}
-use Rattle.zjournal.specs.declared.file.fault.FileFault.TheVariants.{DanglingLink, LongName, NoDescriptor, NoLock, Io}
+use Rattle.zjournal.specs.declared.file.fault.FileFault.TheVariants.{DanglingLink, LongName, NoDescriptor, NoLock, Parts, Io}
 
 abbrev pub fault_text : FileFault → List ℕ
 fault_text Memory = codes "memory"
@@ -14,4 +14,5 @@ fault_text DanglingLink = codes "the folder is a link to nothing"
 fault_text LongName = codes "the name is too long"
 fault_text NoDescriptor = codes "no file descriptor is left"
 fault_text NoLock = codes "the file system has no locks"
+fault_text Parts = codes "a part of the journal is missing"
 fault_text Io = codes "the disk failed"

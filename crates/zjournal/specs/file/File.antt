@@ -34,3 +34,7 @@ tail_of f = f.tail
 
 abbrev pub had_failed_of : {R : Type 0} → FileDevice R → Bool
 had_failed_of f = f.had_failed
+
+-- the bytes of the parts before the last one: the index at which that one begins
+abbrev pub beginning_of : {R : Type 0} → FileDevice R → ℕ
+beginning_of f = f.place.start

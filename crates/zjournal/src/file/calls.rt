@@ -1,10 +1,8 @@
 //! The system calls that read and change a file. Each returns whether all of it was done.
 
-use crate::file::FileFault;
-use std::alloc::Global;
 use std::fs;
 use std::fs::{File, Files};
-use std::io::{Read, Write};
+use std::io::Write;
 use std::os::unix::fs::FileExt;
 
 /// Writes all the bytes at this offset.
@@ -20,13 +18,6 @@ pub(crate) fn cut(file: &File, len: usize) -> bool {
 /// Waits until what was written is durable.
 pub(crate) fn sync(file: &File) -> bool {
     file.sync_data().is_ok()
-}
-
-/// Reads all bytes of a file that was just opened.
-pub(crate) fn read_all(alloc: Global, mut file: &File) -> Result<Vec<u8>, FileFault> {
-    let mut bytes = Vec::new(alloc);
-    file.read_to_end(&mut bytes)?;
-    Ok(bytes)
 }
 
 /// Writes all the bytes at the end of a file that no one else writes.
@@ -47,4 +38,14 @@ pub(crate) fn rename<R: Files<File = File>>(files: &R, from: &str, to: &str) -> 
 /// Removes a file.
 pub(crate) fn remove<R: Files<File = File>>(files: &R, path: &str) -> bool {
     fs::remove_file(files, path).is_ok()
+}
+
+/// Takes the lock of a folder, unless another process has it.
+pub(crate) fn lock(folder: &File) -> bool {
+    folder.try_lock().is_ok()
+}
+
+/// Releases the lock of a folder.
+pub(crate) fn unlock(folder: &File) -> bool {
+    folder.unlock().is_ok()
 }

@@ -1,5 +1,6 @@
 //! A device over one file of the system. Each method makes one call, and then records it with its
-//! result. The new file replaces the old one in three such steps.
+//! result. The new file replaces the old one in three such steps (`replacing.rt`), and a new part
+//! begins in four (`splitting.rt`).
 //!
 //! # Why
 //! After a failed call on the file the device makes no more. A failed write may have put some of its
@@ -7,48 +8,51 @@
 //! calls as before. The device holds the runtime by which it was opened: `std::fs` needs it to make,
 //! rename and remove files.
 
-ghost use Rattle.std.specs.Prelude.{◌≡◌, ◌&&◌, ◌∷◌, [], true, false, IfOk, IfErr, OnErr, OnOk, length};
+ghost use Rattle.std.specs.Prelude.{◌≡◌, ◌&&◌, ◌∷◌, [], false, IfOk, IfSome, length};
 ghost use Rattle.std.specs.Option.{is_some};
 ghost use Rattle.zjournal.specs.Device.{Only};
 ghost use Rattle.zjournal.specs.declared.device.DeviceError.TheVariants.{Failed};
 ghost use Rattle.zjournal.specs.file.Events.{held, refused, replay, MayLeave};
-ghost use Rattle.zjournal.specs.file.Events.{ends_with_name, folder_synced, named, settled};
 ghost use Rattle.zjournal.specs.file.Events.{asks, skips};
 ghost use Rattle.zjournal.specs.file.Moments.{LeftSince, left_now, left_last};
 ghost use Rattle.zjournal.specs.file.Waiting.{calls_before};
 
-use crate::file::numbers::{
-    ADDED, BEGUN, FOLDER_SYNCED, HELD, NAMED, REFUSED, SETTLED, SHORTENED, SYNCED, WRITTEN,
-};
-use crate::file::opening::{Opened, Place};
+use crate::file::numbers::{ADDED, BEGUN, HELD, REFUSED, SHORTENED, SYNCED, WRITTEN};
+use crate::file::opening::Opened;
+use crate::file::parts::NewPart;
+use crate::file::place::Place;
 use crate::file::record::Record;
 use crate::file::{FileFault, SyncMode, Tail, calls, marks, opening};
 use crate::{Device, DeviceError};
 use std::alloc::Global;
 use std::fs::{File, Files};
-use std::mem;
 
-/// The file `journal` of a folder. It is locked until this is dropped, also when a new one,
-/// `journal.new`, replaces it.
+/// The file `journal` of a folder, the last of its parts. It is locked until this is dropped, also
+/// when a new one, `journal.new`, replaces or continues it. Or the parts before the last one, with
+/// their folder locked.
 #[derive(Drop)]
 pub struct FileDevice<R> {
     pub(super) files: R,
     pub(super) place: Place,
-    file: File,
+    pub(super) file: File,
     // The new file, if one is begun and whole so far, and the one that lost its name last. That one
     // stays locked: it keeps out a program that opened it earlier and doesn't check the name again.
     pub(super) beside: Option<File>,
-    former: Option<File>,
-    mode: SyncMode,
+    // How many of its bytes were added since it was synced.
+    pub(super) unsynced: usize,
+    pub(super) former: Option<File>,
+    // A new part that is whole so far, until it has the name.
+    pub(super) next: Option<NewPart>,
+    pub(super) mode: SyncMode,
     // What was read at opening, until the file is changed or synced.
     pub(super) waits: Option<Vec<u8>>,
     // What was cut off at opening, and whether a sync failed before.
     pub(super) tail: Option<Tail>,
     pub(super) had_failed: bool,
-    has_failed: bool,
-    // A new file has the name, which may not be durable.
-    is_moved: bool,
-    log: Record,
+    pub(super) has_failed: bool,
+    // A new file or part has the name, which may not be durable.
+    pub(super) is_moved: bool,
+    pub(super) log: Record,
     ghost waiting: { log.events ≡ calls_before waits log.events },
     ghost failed: { has_failed ≡ (replay log.events).has_failed },
     ghost begun: { is_some beside ≡ (replay log.events).is_begun },
@@ -76,6 +80,26 @@ impl<R: Files<File = File> + Copy> FileDevice<R> {
         Ok(FileDevice::begin(*files, found, mode))
     }
 
+    /// Opens the parts before the last one, if there are several, so that one file may replace them
+    /// while a server has the last. Locks the folder. Where a sync has failed there is `None`.
+    pub fn open_beginning(
+        alloc: Global,
+        files: &R,
+        folder: &str,
+        mode: SyncMode,
+    ) -> Result<Option<FileDevice<R>>, FileFault>
+        ensures fresh { IfOk result (λ found. IfSome found (λ file.
+            events_of file ≡ held (seen_of file) ∷ [])) }
+        ensures durable { IfOk result (λ found. IfSome found (λ file.
+            Only (seen_of file) (MayLeaveOf file))) }
+        ensures mode { IfOk result (λ found. IfSome found (λ file. mode_of file ≡ mode)) }
+    {
+        match opening::open_beginning(alloc, files, folder)? {
+            Some(found) => Ok(Some(FileDevice::begin(*files, found, mode))),
+            None => Ok(None),
+        }
+    }
+
     /// Whether its syncs ask the disk. With `Batch` no sync so far was skipped.
     pub fn mode(&self) -> SyncMode
         ensures mode { result ≡ mode_of self.now }
@@ -96,7 +120,9 @@ impl<R: Files<File = File> + Copy> FileDevice<R> {
             place: found.place,
             file: found.file,
             beside: None,
+            unsynced: 0,
             former: None,
+            next: None,
             mode,
             waits: Some(found.bytes),
             tail: None,
@@ -108,7 +134,7 @@ impl<R: Files<File = File> + Copy> FileDevice<R> {
     }
 
     // Makes no call on the file.
-    fn refuse(&mut self) -> DeviceError
+    pub(super) fn refuse(&mut self) -> DeviceError
         ensures reported { result ≡ Failed }
         ensures noted { events_of self.new ≡ refused ∷ events_of self.old }
         ensures same { mode_of self.new ≡ mode_of self.old }
@@ -116,85 +142,6 @@ impl<R: Files<File = File> + Copy> FileDevice<R> {
         self.waits = None;
         self.log.note(&[REFUSED, 0, 0], &[]);
         DeviceError::Failed
-    }
-
-    // Asks the disk to make the new file durable, unless syncs are skipped.
-    fn is_new_file_synced(&self) -> bool {
-        match &self.beside {
-            Some(next) => self.mode == SyncMode::Never || calls::sync_all(next),
-            None => false,
-        }
-    }
-
-    // Makes the new file durable.
-    fn settle(&mut self) -> Result<(), DeviceError>
-        ensures done { OnOk result (events_of self.new
-            ≡ settled (mode_of self.old) true ∷ events_of self.old) }
-        ensures not_done { OnErr result (events_of self.new
-            ≡ settled (mode_of self.old) false ∷ events_of self.old) }
-        ensures same { mode_of self.new ≡ mode_of self.old }
-        ensures reported { IfErr result (λ e. e ≡ Failed) }
-    {
-        let done = self.is_new_file_synced();
-        self.waits = None;
-        if done {
-            self.log.note(&[SETTLED, self.mode.noted(), 1], &[]);
-            Ok(())
-        } else {
-            self.log.note(&[SETTLED, self.mode.noted(), 0], &[]);
-            marks::mark_failed(&self.files, &self.place);
-            self.has_failed = true;
-            Err(DeviceError::Failed)
-        }
-    }
-
-    // Gives the new file the name of the old one, which stays locked.
-    fn take_name(&mut self) -> Result<(), DeviceError>
-        ensures done { OnOk result (events_of self.new ≡ named true ∷ events_of self.old) }
-        ensures not_done { OnErr result (events_of self.new ≡ named false ∷ events_of self.old) }
-        ensures same { mode_of self.new ≡ mode_of self.old }
-        ensures reported { IfErr result (λ e. e ≡ Failed) }
-    {
-        self.waits = None;
-        self.is_moved = true;
-        if calls::rename(&self.files, &self.place.new_path, &self.place.path) {
-            self.log.note(&[NAMED, 0, 1], &[]);
-            if let Some(next) = self.beside.take() {
-                self.former = Some(mem::replace(&mut self.file, next));
-            }
-            Ok(())
-        } else {
-            self.log.note(&[NAMED, 0, 0], &[]);
-            self.has_failed = true;
-            Err(DeviceError::Failed)
-        }
-    }
-
-    // Makes the folder durable, with the name. Then the old file is cut to nothing.
-    fn sync_folder(&mut self) -> Result<(), DeviceError>
-        requires whole { ends_with_name (replay (events_of self.old)).changes ≡ true }
-        requires sound { (replay (events_of self.old)).has_failed ≡ false }
-        ensures done { OnOk result (events_of self.new
-            ≡ folder_synced (mode_of self.old) true ∷ events_of self.old) }
-        ensures not_done { OnErr result (events_of self.new
-            ≡ folder_synced (mode_of self.old) false ∷ events_of self.old) }
-        ensures same { mode_of self.new ≡ mode_of self.old }
-        ensures reported { IfErr result (λ e. e ≡ Failed) }
-    {
-        self.waits = None;
-        if self.mode == SyncMode::Never || calls::sync_all(&self.place.folder) {
-            self.log.note(&[FOLDER_SYNCED, self.mode.noted(), 1], &[]);
-            self.is_moved = false;
-            if let Some(former) = &self.former {
-                calls::cut(former, 0);
-            }
-            Ok(())
-        } else {
-            self.log.note(&[FOLDER_SYNCED, self.mode.noted(), 0], &[]);
-            marks::mark_failed(&self.files, &self.place);
-            self.has_failed = true;
-            Err(DeviceError::Failed)
-        }
     }
 }
 
@@ -226,12 +173,14 @@ impl<R: Files<File = File> + Copy> Device for FileDevice<R> {
         }
     }
 
+    // Only the last part takes bytes.
     fn write_at(&mut self, at: usize, bytes: &[u8]) -> Result<(), DeviceError> {
-        if self.has_failed {
-            return Err(self.refuse());
-        }
+        let offset = match self.place.offset(at) {
+            Some(offset) if !self.has_failed => offset,
+            _ => return Err(self.refuse()),
+        };
         self.waits = None;
-        if calls::write_all(&self.file, at, bytes) {
+        if calls::write_all(&self.file, offset, bytes) {
             self.log.note(&[WRITTEN, at as u64, 1], bytes);
             Ok(())
         } else {
@@ -242,15 +191,16 @@ impl<R: Files<File = File> + Copy> Device for FileDevice<R> {
     }
 
     fn cut(&mut self, len: usize) -> Result<(), DeviceError> {
-        if self.has_failed {
-            return Err(self.refuse());
-        }
+        let offset = match self.place.offset(len) {
+            Some(offset) if !self.has_failed => offset,
+            _ => return Err(self.refuse()),
+        };
         let saved = self.save_tail(len);
         self.waits = None;
         if let Ok(Some(tail)) = saved {
             self.tail = Some(tail);
         }
-        if saved.is_ok() && calls::cut(&self.file, len) {
+        if saved.is_ok() && calls::cut(&self.file, offset) {
             self.log.note(&[SHORTENED, len as u64, 1], &[]);
             Ok(())
         } else {
@@ -298,9 +248,8 @@ impl<R: Files<File = File> + Copy> Device for FileDevice<R> {
     }
 
     fn add_beside(&mut self, bytes: &[u8]) -> Result<(), DeviceError> {
-        let done = match &self.beside {
-            Some(next) if !self.has_failed => calls::append(next, bytes),
-            _ => return Err(self.refuse()),
+        let Some(done) = self.append(bytes) else {
+            return Err(self.refuse());
         };
         self.waits = None;
         if done {
@@ -314,13 +263,25 @@ impl<R: Files<File = File> + Copy> Device for FileDevice<R> {
         }
     }
 
+    // No other process may replace the parts before the last one meanwhile.
     fn take_place(&mut self) -> Result<(), DeviceError> {
-        if self.has_failed || self.beside.is_none() {
+        if self.has_failed || self.beside.is_none() || !calls::lock(&self.place.folder) {
             return Err(self.refuse());
         }
         self.settle()?; // first the new file is on the disk
         self.take_name()?; // then it has the name
         self.sync_folder()?; // now its name is durable
+        Ok(())
+    }
+
+    fn split(&mut self) -> Result<(), DeviceError> {
+        if self.has_failed || self.is_moved || self.place.is_beginning {
+            return Err(self.refuse());
+        }
+        self.begin_part()?; // first its bytes are written
+        self.settle_part()?; // then they are on the disk
+        self.name_part()?; // then it has the name
+        self.keep_part()?; // now its name is durable
         Ok(())
     }
 }

@@ -29,6 +29,8 @@ pub enum FileFault {
     NoDescriptor,
     /// The file system can't lock files.
     NoLock,
+    /// A part of the file is missing, or the parts don't continue each other.
+    Parts,
     /// A system call failed for another reason.
     Io,
 }
@@ -50,6 +52,7 @@ impl FileFault {
             FileFault::LongName => "the name is too long",
             FileFault::NoDescriptor => "no file descriptor is left",
             FileFault::NoLock => "the file system has no locks",
+            FileFault::Parts => "a part of the journal is missing",
             FileFault::Io => "the disk failed",
         }
     }

@@ -1,9 +1,9 @@
 //! What an opening found: how much, a tail that it cut off, and the mark of a failed sync.
 
 ghost use Rattle.std.specs.Prelude.{◌≡◌};
-ghost use Rattle.zjournal.specs.file.File.{had_failed_of, tail_of, waiting_of};
+ghost use Rattle.zjournal.specs.file.File.{beginning_of, had_failed_of, tail_of, waiting_of};
 
-use crate::file::calls::remove;
+use crate::file::calls::{remove, unlock};
 use crate::file::marks::save_cut;
 use crate::file::{FileDevice, Tail};
 use std::fs::{File, Files};
@@ -40,12 +40,27 @@ impl<R: Files<File = File> + Copy> FileDevice<R> {
         remove(&self.files, &self.place.failed_path);
     }
 
-    /// Removes a new file that a crash left unfinished, if that can be done. One that this device
-    /// has begun stays.
+    /// Removes new files that a crash left unfinished, if that can be done. One that this device
+    /// has begun stays. To be called before `share`: later, another process may be writing one.
     pub fn remove_unfinished(&self) {
         if self.beside.is_none() {
             remove(&self.files, &self.place.new_path);
+            remove(&self.files, &self.place.begin_path);
         }
+    }
+
+    /// The number of bytes in the parts before the last one.
+    pub fn beginning(&self) -> usize
+        ensures { result ≡ beginning_of self.now }
+    {
+        self.place.start
+    }
+
+    /// Releases the folder's lock. From now on another process may replace the parts before the
+    /// last one. While it is at work, no new file replaces the whole. One that does takes the lock
+    /// again.
+    pub fn share(&self) {
+        unlock(&self.place.folder);
     }
 
     // Before a cut to this length: saves what it takes of the bytes that were read at opening. One

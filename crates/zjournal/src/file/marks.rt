@@ -10,7 +10,8 @@
 //! The mark needs no sync: a crash that loses it loses those pages as well.
 
 use crate::file::FileFault;
-use crate::file::opening::{Place, new_file, open_new};
+use crate::file::opening::{new_file, open_new};
+use crate::file::place::Place;
 use std::fs;
 use std::fs::{File, Files};
 use std::io::ErrorKind;
@@ -33,9 +34,12 @@ fn try_to_save<R: Files<File = File>>(
     Ok(place.folder.sync_all()?)
 }
 
-/// Makes an empty file `journal.failed`, if that can be done.
+/// Makes an empty file `journal.failed`, if that can be done. A file that is to replace the parts
+/// before the last one may fail: those stay as they are, so there is no mark.
 pub(crate) fn mark_failed<R: Files<File = File>>(files: &R, place: &Place) {
-    let _ = open_new(files, &place.failed_path);
+    if !place.is_beginning {
+        let _ = open_new(files, &place.failed_path);
+    }
 }
 
 /// Returns whether a file `journal.failed` exists.

@@ -19,3 +19,11 @@ pub(crate) const SETTLED: u64 = 7;
 pub(crate) const NAMED: u64 = 8;
 
 pub(crate) const FOLDER_SYNCED: u64 = 9;
+
+pub(crate) const PART_BEGUN: u64 = 10;
+
+pub(crate) const PART_SETTLED: u64 = 11;
+
+pub(crate) const PART_NAMED: u64 = 12;
+
+pub(crate) const PART_KEPT: u64 = 13;

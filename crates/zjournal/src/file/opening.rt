@@ -6,32 +6,21 @@
 //! opening checks the name again under its lock. Each opening syncs the file, its folder and the
 //! folder above, since an earlier process may have been killed before it did.
 //!
+//! The folder has a lock too, which is that of the parts before the last one. A server may leave it
+//! to a process that replaces them.
+//!
 //! Two processes may find the folder missing at once. The one that makes it second opens it as it
 //! is, and then finds the file locked.
 
 use crate::file::FileFault;
-use crate::file::calls::read_all;
 use crate::file::marks::{is_marked, mark_failed};
+use crate::file::parts::{open_part, part_before, read_parts};
+use crate::file::place::{Place, joined};
 use std::alloc::Global;
 use std::fs;
 use std::fs::{DirBuilder, File, Files, OpenOptions};
 use std::io::ErrorKind;
 use std::os::unix::fs::{DirBuilderExt, MetadataExt, OpenOptionsExt};
-
-/// Where a file is.
-#[derive(Drop)]
-pub(crate) struct Place {
-    /// The folder, open.
-    pub(crate) folder: File,
-    /// The path of the file.
-    pub(crate) path: String,
-    /// The path of a new file, before it replaces the other.
-    pub(crate) new_path: String,
-    /// The path of a file with what an opening cuts off.
-    pub(crate) cut_path: String,
-    /// The path of the mark that a sync has failed.
-    pub(crate) failed_path: String,
-}
 
 /// What was found in a folder.
 #[derive(Drop)]
@@ -52,26 +41,55 @@ pub(crate) fn open_locked<R: Files<File = File>>(
     files: &R,
     folder: &str,
 ) -> Result<Opened, FileFault> {
-    let place = Place {
-        folder: open_folder(alloc, files, folder)?,
-        path: joined(alloc, folder, "/journal")?,
-        new_path: joined(alloc, folder, "/journal.new")?,
-        cut_path: joined(alloc, folder, "/journal.cut")?,
-        failed_path: joined(alloc, folder, "/journal.failed")?,
-    };
+    let handle = open_folder(alloc, files, folder)?;
+    let mut place = Place::new(alloc, folder, handle)?;
+    place.folder.try_lock()?;
     let file = open_file(files, &place.path)?;
     lock(files, &file, &place.path)?;
     let had_failed = is_marked(files, &place)?;
     sync(files, &place, &file)?;
     let above = joined(alloc, folder, "/..")?;
     File::open(files, &above)?.sync_all()?;
-    let bytes = read_all(alloc, &file)?;
+    let bytes = read_parts(files, &mut place, &file)?;
     Ok(Opened {
         place,
         file,
         bytes,
         had_failed,
     })
+}
+
+/// The parts before the last one, durable, if there are several and no sync has failed. Nothing is
+/// made. The last part may be locked, and the folder is locked.
+pub(crate) fn open_beginning<R: Files<File = File>>(
+    alloc: Global,
+    files: &R,
+    folder: &str,
+) -> Result<Option<Opened>, FileFault> {
+    let handle = File::open(files, &joined(alloc, folder, "/")?)?;
+    let mut place = Place::new(alloc, folder, handle)?;
+    place.folder.try_lock()?;
+    let number = part_before(&open_part(files, &place.path)?)?;
+    if number == 0 || is_marked(files, &place)? {
+        return Ok(None);
+    }
+    place.begin_with(number)?;
+    let file = open_part(files, &place.path)?;
+    let before = part_before(&file)?;
+    if before == 0 {
+        return Ok(None);
+    }
+    if before >= number {
+        return Err(FileFault::Parts);
+    }
+    sync(files, &place, &file)?;
+    let bytes = read_parts(files, &mut place, &file)?;
+    Ok(Some(Opened {
+        place,
+        file,
+        bytes,
+        had_failed: false,
+    }))
 }
 
 // Makes the file and its name durable.
@@ -105,13 +123,18 @@ fn lock<R: Files<File = File>>(files: &R, file: &File, path: &str) -> Result<(),
 /// A new, empty, locked file. A file that had its name is removed. It is locked before it can take
 /// the other name, so no other process can lock it after that.
 pub(crate) fn new_file<R: Files<File = File>>(files: &R, path: &str) -> Result<File, FileFault> {
-    match fs::remove_file(files, path) {
-        Err(error) if error.kind() != ErrorKind::NotFound => return Err(FileFault::from(error)),
-        _ => {}
-    }
+    remove_old(files, path)?;
     let file = open_new(files, path)?;
     file.try_lock()?;
     Ok(file)
+}
+
+/// Removes a file, if there is one.
+pub(crate) fn remove_old<R: Files<File = File>>(files: &R, path: &str) -> Result<(), FileFault> {
+    match fs::remove_file(files, path) {
+        Err(error) if error.kind() == ErrorKind::NotFound => Ok(()),
+        removed => Ok(removed?),
+    }
 }
 
 /// Makes a file that doesn't exist yet, for its owner alone. Its descriptor is copied to one above
@@ -120,13 +143,6 @@ pub(crate) fn open_new<R: Files<File = File>>(files: &R, path: &str) -> Result<F
     let mut options = OpenOptions::new();
     options.read(true).write(true).create_new(true).mode(0o600);
     Ok(options.open(files, path)?.try_clone()?)
-}
-
-fn joined(alloc: Global, folder: &str, name: &str) -> Result<String, FileFault> {
-    let mut path = String::new(alloc);
-    path.push_str(folder)?;
-    path.push_str(name)?;
-    Ok(path)
 }
 
 // The folder; where it is made, its owner alone may enter it. Its name ends with a slash, so that

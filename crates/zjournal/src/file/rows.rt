@@ -4,6 +4,7 @@ ghost use Rattle.std.specs.Prelude.{◌≡◌, [], ◌∷◌, List, ℕ, true, f
 ghost use Rattle.zjournal.specs.file.Events.{held, written, shortened, synced, refused, replay, MayLeave};
 ghost use Rattle.zjournal.specs.declared.file.mode.SyncMode.TheVariants.{Batch, Never};
 ghost use Rattle.zjournal.specs.file.Events.{added, begun, folder_synced, named, settled, skips};
+ghost use Rattle.zjournal.specs.file.Events.{part_begun, part_kept, part_named, part_settled};
 
 /// What a read returns after some calls, the newest first. A failed call changes nothing of it.
 pub fn calls_change_a_file()
@@ -95,4 +96,36 @@ pub fn failed_new_files_are_ended()
         ∷ held (1 ∷ []) ∷ []) c → c ≡ 7 ∷ [] }
     ensures in_part { MayLeave (folder_synced Batch true ∷ named true ∷ settled Batch true
         ∷ added false (8 ∷ []) ∷ begun true ∷ held (1 ∷ []) ∷ []) (7 ∷ 7 ∷ []) }
+{}
+
+/// A split changes nothing. Once the new part's name is durable, a sync of the file makes durable
+/// what is written. A part ends the new file, and one that isn't begun leaves all else as it was.
+pub fn parts_change_nothing()
+    ensures seen { (replay (part_named true ∷ part_settled Batch true ∷ part_begun true
+        ∷ held (1 ∷ 0 ∷ []) ∷ [])).seen ≡ 1 ∷ 0 ∷ [] }
+    ensures left { (c : List ℕ) → MayLeave (part_named true ∷ part_settled Batch true
+        ∷ part_begun true ∷ held (1 ∷ 0 ∷ []) ∷ []) c → c ≡ 1 ∷ 0 ∷ [] }
+    ensures written { (c : List ℕ) → MayLeave (synced Batch true ∷ written 1 true (9 ∷ [])
+        ∷ part_kept Batch true ∷ part_named true ∷ part_settled Batch true ∷ part_begun true
+        ∷ held (1 ∷ 0 ∷ []) ∷ []) c → c ≡ 1 ∷ 9 ∷ [] }
+    ensures counted { (replay (part_begun false ∷ begun true ∷ held (1 ∷ []) ∷ [])).faults ≡ 1 }
+    ensures usable { (replay (part_begun false ∷ begun true ∷ held (1 ∷ []) ∷ [])).has_failed
+        ≡ false }
+    ensures ended { (replay (part_begun false ∷ begun true ∷ held (1 ∷ []) ∷ [])).is_begun ≡ false }
+    ensures skipped { skips (part_settled Never true ∷ part_begun true ∷ held [] ∷ []) ≡ true }
+{}
+
+/// A part that takes the name before it is whole and durable leaves anything, and no sync makes the
+/// file whole. While the name of a part isn't durable, no sync of the file makes anything durable.
+pub fn parts_are_durable_first()
+    ensures unsettled { MayLeave (part_named true ∷ part_begun true ∷ held (1 ∷ []) ∷ [])
+        (7 ∷ 7 ∷ []) }
+    ensures not_settled { MayLeave (part_named true ∷ part_settled Batch false ∷ part_begun true
+        ∷ held (1 ∷ []) ∷ []) (7 ∷ 7 ∷ []) }
+    ensures in_part { MayLeave (part_named true ∷ part_settled Batch true ∷ part_begun false
+        ∷ held (1 ∷ []) ∷ []) (7 ∷ 7 ∷ []) }
+    ensures never { MayLeave (synced Batch true ∷ part_kept Batch true ∷ part_named true
+        ∷ part_begun true ∷ held (1 ∷ []) ∷ []) (7 ∷ 7 ∷ []) }
+    ensures of_the_file { MayLeave (synced Batch true ∷ written 1 true (9 ∷ []) ∷ part_named true
+        ∷ part_settled Batch true ∷ part_begun true ∷ held (1 ∷ 0 ∷ []) ∷ []) (1 ∷ 0 ∷ []) }
 {}

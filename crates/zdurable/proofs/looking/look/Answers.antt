@@ -50,5 +50,5 @@ returns-in-Ok-read-clause-end g c =
     let read = c.in-Ok.ensures.text in (
       read.0,
       subst (λ n. Represents n read.0 (g.D.Device.seen c.args.device.now)) c.number.ensures.same read.1,
-      λ format. subst (λ n. c.in-Ok.content.end ≡ length (blocks (holdings format n read.0))) c.number.ensures.same (read.3 format),
+      λ start. subst (λ n. c.in-Ok.content.end ≡ length (blocks (holdings start n read.0))) c.number.ensures.same (read.3 start),
     )

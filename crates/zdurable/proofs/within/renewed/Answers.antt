@@ -4,18 +4,11 @@ use Rattle.zjournal.specs.Journal.{device_of}
 use Rattle.zdurable.specs.Compaction.{IsOldOrTree}
 use Rattle.zdurable.proofs.within.renewed.Goals as goal
 
-pub returns-in-Ok-Replaced-clause-kept : goal.returns-in-Ok-Replaced-clause-kept
-returns-in-Ok-Replaced-clause-kept g c servers batches is_open rest =
-    rw c.in-Ok-Replaced.field-0-is at (c.in-Ok-Replaced.ensures.kept servers batches is_open rest)
-
-pub returns-in-Ok-Postponed-clause-any_moment_err : goal.returns-in-Ok-Postponed-clause-any_moment_err
-returns-in-Ok-Postponed-clause-any_moment_err g c servers batches rest =
-    subst (λ (d : g.row.D.Denot). LeavesOnly g.D.Device.moment g.D.Device.left_since (device_of c.args.journal) d
-    (IsOldOrTree servers batches c.args.tree.now.tree))
-    (sym c.into_device.ensures) (c.compact.ensures.any_moment servers batches rest)
+pub returns-in-Ok-clause-kept : goal.returns-in-Ok-clause-kept
+returns-in-Ok-clause-kept g c servers batches is_open rest = c.in-Ok.ensures.kept servers batches is_open rest
 
 pub returns-in-Err-clause-any_moment_err : goal.returns-in-Err-clause-any_moment_err
 returns-in-Err-clause-any_moment_err g c servers batches rest =
     subst (λ (d : g.row.D.Denot). LeavesOnly g.D.Device.moment g.D.Device.left_since (device_of c.args.journal) d
     (IsOldOrTree servers batches c.args.tree.now.tree))
-    (sym c.into_device-in-Err.ensures) (c.compact.ensures.any_moment servers batches rest)
+    (sym c.into_device.ensures) (c.compact.ensures.any_moment servers batches rest)

@@ -1,5 +1,4 @@
 use Rattle.std.proofs.Common.{◌∙◌, ap, ◌++◌, ◌∷◌, [], List, ℕ}
-use Rattle.zjournal.specs.declared.format.Format.TheVariants.{Running}
 use Rattle.zjournal.specs.Journal.{head}
 use Rattle.zjournal.proofs.Renewals.{untouched_both}
 use Rattle.zjournal.proofs.beside.begin_file.Goals as goal
@@ -16,5 +15,5 @@ returns-clause-untouched g c =
 
 pub returns-clause-begun : goal.returns-clause-begun
 returns-clause-begun g c =
-    c.in_ok-add_open_block.ensures.added (head Running c.args.servers) c.head_block.ensures
-    ∙ ap (λ (l : List ℕ). l ++ 1 ∷ (head Running c.args.servers ++ 0 ∷ [])) c.in_ok-begin.ensures.begun
+    c.in_ok-add_open_block.ensures.added (head c.args.start c.args.servers) c.head_block.ensures
+    ∙ ap (λ (l : List ℕ). l ++ 1 ∷ (head c.args.start c.args.servers ++ 0 ∷ [])) c.in_ok-begin.ensures.begun

@@ -1,20 +1,14 @@
 use Rattle.std.proofs.Common.{◌∙◌, inl, inr, refl, sym, []}
 use Rattle.zjournal.proofs.Files.{head_end, keeps, same_end}
-use Rattle.zjournal.proofs.Opens.{found_of, only_read, only_left}
+use Rattle.zjournal.proofs.Opens.{being_made_of, found_of, only_read, only_left}
 use Rattle.std.proofs.lemmas.Result.{err_from_is_err_and}
 use Rattle.zjournal.proofs.opening.read_text.Goals as goal
 
 pub returns-in-Unmade-clause-text : goal.returns-in-Unmade-clause-text
 returns-in-Unmade-clause-text g c =
-    let found = found_of c.args.servers c.deref.result.now (g.D.Device.seen c.args.device.now) c.in_ok-look.field-0 _
+    let made = being_made_of c.args.servers c.deref.result.now (g.D.Device.seen c.args.device.now) c.in_ok-look.field-0
     (c.deref.ensures.value ∙ c.in_ok-bytes.ensures.bytes) c.in-Unmade.is c.in_ok-look.ensures.ok in
-    ([], inr (inl found, refl), c.new.ensures.items, λ f. sym (head_end f c.args.servers))
-
-pub returns-in-Unopened-clause-text : goal.returns-in-Unopened-clause-text
-returns-in-Unopened-clause-text g c =
-    let found = found_of c.args.servers c.deref.result.now (g.D.Device.seen c.args.device.now) c.in_ok-look.field-0 _
-    (c.deref.ensures.value ∙ c.in_ok-bytes.ensures.bytes) c.in-Unopened.is c.in_ok-look.ensures.ok in
-    ([], inr (inr (_, found.0), refl), c.new-in-Unopened.ensures.items, λ f. sym (head_end f c.args.servers))
+    ([], inr (made, refl), c.new.ensures.items, λ start. sym (head_end start c.args.servers))
 
 pub returns-clause-text : goal.returns-clause-text
 returns-clause-text g c =
@@ -23,7 +17,7 @@ returns-clause-text g c =
       found.0,
       inl (keeps c.args.servers found.0 (g.D.Device.seen c.args.device.now) _ found.1),
       found.2,
-      λ f. found.1.is_place.end ∙ same_end c.in-Cached.place.format f c.args.servers found.0,
+      λ start. found.1.is_place.end ∙ same_end c.in-Cached.place.start start c.args.servers found.0,
     )
 
 pub returns-in_err-bytes-clause-durable : goal.returns-in_err-bytes-clause-durable
@@ -55,17 +49,6 @@ returns-in-Unmade-clause-durable g c =
 
 pub returns-in-Unmade-clause-any_moment : goal.returns-in-Unmade-clause-any_moment
 returns-in-Unmade-clause-any_moment g c =
-    only_read g.D.Device.seen g.D.Device.may_leave g.D.Device.moment g.D.Device.left_since c.args.device.now c.read.new.self
-    c.requires.durable c.read.ensures.crash
-    (g.met.D.Device.only_now c.args.device.now) c.read.ensures.time
-
-pub returns-in-Unopened-clause-durable : goal.returns-in-Unopened-clause-durable
-returns-in-Unopened-clause-durable g c =
-    only_left g.D.Device.seen g.D.Device.may_leave g.D.Device.moment g.D.Device.left_since c.args.device.now c.read.new.self
-    c.requires.durable c.read.ensures.crash c.read.ensures.seen
-
-pub returns-in-Unopened-clause-any_moment : goal.returns-in-Unopened-clause-any_moment
-returns-in-Unopened-clause-any_moment g c =
     only_read g.D.Device.seen g.D.Device.may_leave g.D.Device.moment g.D.Device.left_since c.args.device.now c.read.new.self
     c.requires.durable c.read.ensures.crash
     (g.met.D.Device.only_now c.args.device.now) c.read.ensures.time

@@ -1,10 +1,10 @@
 use Rattle.std.proofs.Common.{◌≡◌, ◌≢◌, inl, inr, ℕ, List, [], ◌∷◌, ◌++◌, length, drop, get_or, refl, sym, ◌∙◌, ap, arith}
 use Rattle.std.specs.Prelude.{codes}
-use Rattle.zjournal.specs.declared.format.Format.TheVariants.{Running}
 use Rattle.zjournal.specs.declared.fault.OpenError.TheVariants.{Damaged}
 use Rattle.zjournal.specs.Blocks.{IsText}
 use Rattle.zjournal.specs.Checksum.{stamped}
 use Rattle.zjournal.specs.Journal.{head, Keeps}
+use Rattle.zjournal.proofs.Adler.{one_is_sum}
 use Rattle.zjournal.proofs.Blocks.{first_zero}
 use Rattle.zjournal.proofs.Files.{head_text}
 use Rattle.zjournal.proofs.Readings.{what_stands_has_no_fault}
@@ -28,22 +28,24 @@ not_first others text more h is =
     omega (arith, differ)
 
 none_with : (others file : List ℕ) (batches : List (List ℕ))
-    → file ≡ 1 ∷ (head Running 3 ++ 0 ∷ 1 ∷ (codes "012600c4b" ++ 0 ∷ others)) → Keeps 3 batches file → ⊥
+    → file ≡ 1 ∷ (head 1 3 ++ 0 ∷ 1 ∷ (codes "012600c4b" ++ 0 ∷ others)) → Keeps 3 batches file → ⊥
 none_with others file batches is keeps =
     what_stands_has_no_fault 3 file batches (Damaged 34) (inl keeps) tt
     (inr (
-      Running,
+      1,
+      one_is_sum,
       [],
-      (head_text Running 3 (omega arith), tt),
+      (head_text 1 3 (omega arith), tt),
       refl,
       (codes "012600c4b" ++ 0 ∷ others, is, (λ empty. omega (arith, ap length empty)), not_first others),
     ))
 
 pub returns-clause-both : goal.returns-clause-both
 returns-clause-both c = record {
-  format = Running;
+  start = 1;
+  is_sum = one_is_sum;
   texts = (
-    head_text Running 3 (omega arith),
+    head_text 1 3 (omega arith),
     (stamped_text 1 (97 ∷ []) (letter 97 (λ is. omega (arith, is))), (second, tt)),
   );
   end = 0 ∷ [];

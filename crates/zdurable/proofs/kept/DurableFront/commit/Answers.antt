@@ -51,7 +51,7 @@ returns-clause-kept g c servers batches t is_open serving =
       alloc = old.alloc;
       front = c.take_made.new.self;
       journal = c.put.new.journal;
-      shortened = old.shortened;
+      measured = old.measured;
       is_open = true;
     } in
     let some : (length (made_in old) == 0) ≡ false = sym (c.if-is_empty.ensures ∙ ap (λ (l : List Entry). length l == 0) c.made.ensures) in

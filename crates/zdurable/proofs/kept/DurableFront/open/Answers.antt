@@ -16,7 +16,7 @@ returns-in-Ok-open_within-clause-serving g c =
       alloc = c.args.alloc;
       front = c.in-Ok-restored.front;
       journal = c.in-Ok-open_within.journal;
-      shortened = c.measure_if-shortened.result;
+      measured = c.measure_if-measured.result;
       is_open = true;
     } in
     let keeps = c.in-Ok.ensures.keeps in
@@ -27,7 +27,7 @@ returns-in-Ok-open_within-clause-serving g c =
     (g.D.Device.seen c.args.device) c.in-Ok.it.found.tree.tree c.args.limits kept keeps.batches keeps.stands keeps.text front opened.1 opened.3
     c.in-Ok-open_within.ensures.open (g.D.Device.seen c.look.new.device) c.look.ensures.seen c.service.result.now.tree
     (c.service.ensures ∙ ap (λ (v : ServerView). v.front.tree) front) c.in-Ok-limited.it.1 limited.says opened.0 opened.2 opened.4
-    c.measure_if-shortened.ensures in
+    c.measure_if-measured.ensures in
     (is.0, is.1)
 
 pub returns-in-Ok-open_within-clause-sound : goal.returns-in-Ok-open_within-clause-sound
@@ -37,7 +37,7 @@ returns-in-Ok-open_within-clause-sound g c is_open =
       alloc = c.args.alloc;
       front = c.in-Ok-restored.front;
       journal = c.in-Ok-open_within.journal;
-      shortened = c.measure_if-shortened.result;
+      measured = c.measure_if-measured.result;
       is_open = true;
     } in
     let keeps = c.in-Ok.ensures.keeps in
@@ -48,7 +48,7 @@ returns-in-Ok-open_within-clause-sound g c is_open =
     (g.D.Device.seen c.args.device) c.in-Ok.it.found.tree.tree c.args.limits kept keeps.batches keeps.stands keeps.text front opened.1 opened.3
     c.in-Ok-open_within.ensures.open (g.D.Device.seen c.look.new.device) c.look.ensures.seen c.service.result.now.tree
     (c.service.ensures ∙ ap (λ (v : ServerView). v.front.tree) front) c.in-Ok-limited.it.1 limited.says opened.0 opened.2 opened.4
-    c.measure_if-shortened.ensures in
+    c.measure_if-measured.ensures in
     (c.args.servers, is.0.next, with_limits is.0.found c.args.limits, is.0.serving)
 
 pub returns-in-Ok-open_within-clause-any_moment : goal.returns-in-Ok-open_within-clause-any_moment

@@ -13,27 +13,20 @@ returns-in_err-compact-clause-any_moment g c servers batches stored =
     (IsOldOrTree servers batches (tree_of old)) (KeepsTree servers (tree_of old))
     (c.compact.ensures.any_moment servers batches stored.rest) (keeps_tree servers batches (tree_of old) stored.text)
 
-pub returns-in-Replaced-clause-any_moment : goal.returns-in-Replaced-clause-any_moment
-returns-in-Replaced-clause-any_moment g c servers batches stored =
+pub returns-clause-any_moment : goal.returns-clause-any_moment
+returns-clause-any_moment g c servers batches stored =
     let old = c.args.self.now in
     weaker g.D.Device.moment g.D.Device.left_since (device_of old.journal) (device_of c.compact.new.journal)
     (IsOldOrTree servers batches (tree_of old)) (KeepsTree servers (tree_of old))
     (c.compact.ensures.any_moment servers batches stored.rest) (keeps_tree servers batches (tree_of old) stored.text)
 
-pub returns-in-Replaced-clause-kept : goal.returns-in-Replaced-clause-kept
-returns-in-Replaced-clause-kept g c servers batches stored =
-    let next = rw c.in-Replaced.is at (c.in_ok-compact.ensures.kept servers batches stored.takes stored.rest) in
+pub returns-clause-kept : goal.returns-clause-kept
+returns-clause-kept g c servers batches stored =
+    let next = c.in_ok-compact.ensures.kept servers batches stored.takes stored.rest in
     (next.0, record { rest = next.1; takes = c.in_ok-compact.ensures.open.1; whole = stored.whole; text = next.3 }, next.2)
 
-pub returns-in-Replaced-clause-good : goal.returns-in-Replaced-clause-good
-returns-in-Replaced-clause-good g c =
+pub returns-clause-good : goal.returns-clause-good
+returns-clause-good g c =
     let was = c.requires in
-    let next = rw c.in-Replaced.is at (c.in_ok-compact.ensures.kept was.0 was.1 was.2.takes was.2.rest) in
+    let next = c.in_ok-compact.ensures.kept was.0 was.1 was.2.takes was.2.rest in
     (was.0, next.0, record { rest = next.1; takes = c.in_ok-compact.ensures.open.1; whole = was.2.whole; text = next.3 })
-
-pub returns-in-Postponed-clause-any_moment : goal.returns-in-Postponed-clause-any_moment
-returns-in-Postponed-clause-any_moment g c servers batches stored =
-    let old = c.args.self.now in
-    weaker g.D.Device.moment g.D.Device.left_since (device_of old.journal) (device_of c.compact.new.journal)
-    (IsOldOrTree servers batches (tree_of old)) (KeepsTree servers (tree_of old))
-    (c.compact.ensures.any_moment servers batches stored.rest) (keeps_tree servers batches (tree_of old) stored.text)

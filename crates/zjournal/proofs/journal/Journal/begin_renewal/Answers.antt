@@ -19,7 +19,7 @@ returns-in_err-begin_file-clause-any_moment g c servers batches rest =
 
 pub returns-in_err-begin_file-clause-sound : goal.returns-in_err-begin_file-clause-sound
 returns-in_err-begin_file-clause-sound g c is_open =
-    let was = c.requires c.if-not-self.false in (
+    let was = c.requires.sound c.if-not-self.false in (
       was.0,
       was.1,
       still_rests g.D.Device.seen g.D.Device.may_leave g.D.Device.moment g.D.Device.left_since c.args.self.now
@@ -29,7 +29,8 @@ returns-in_err-begin_file-clause-sound g c is_open =
 pub returns-clause-begun : goal.returns-clause-begun
 returns-clause-begun g c servers batches is_open rest =
     renewal_begun g.D.Device.seen g.D.Device.may_leave g.D.Device.moment g.D.Device.left_since c.args.self.now servers
-    batches rest g.D.Device.beside _ refl refl c.begin_file.ensures.untouched (search rules) c.first-self.ensures.format c.first-self.ensures.end c.first-self.ensures.sum
+    batches rest g.D.Device.beside _ refl refl c.begin_file.ensures.untouched
+    c.args.start c.requires.sum (search rules) c.first-self.ensures.start c.first-self.ensures.end c.first-self.ensures.sum
 
 pub returns-clause-rest : goal.returns-clause-rest
 returns-clause-rest g c servers batches rest =
@@ -43,18 +44,19 @@ returns-clause-any_moment g c servers batches rest =
 
 pub returns-clause-renewing : goal.returns-clause-renewing
 returns-clause-renewing g c is_open =
-    let was = c.requires c.if-not-self.false in (
+    let was = c.requires.sound c.if-not-self.false in (
       was.0,
       was.1,
       [],
       renewal_begun g.D.Device.seen g.D.Device.may_leave g.D.Device.moment g.D.Device.left_since
-          c.args.self.now was.0 was.1 was.2 g.D.Device.beside _ refl refl c.begin_file.ensures.untouched c.in_ok-begin_file.ensures.begun
-          c.first-self.ensures.format c.first-self.ensures.end c.first-self.ensures.sum,
+          c.args.self.now was.0 was.1 was.2 g.D.Device.beside _ refl refl c.begin_file.ensures.untouched
+          c.args.start c.requires.sum c.in_ok-begin_file.ensures.begun
+          c.first-self.ensures.start c.first-self.ensures.end c.first-self.ensures.sum,
     )
 
 pub returns-clause-sound : goal.returns-clause-sound
 returns-clause-sound g c is_open =
-    let was = c.requires c.if-not-self.false in (
+    let was = c.requires.sound c.if-not-self.false in (
       was.0,
       was.1,
       still_rests g.D.Device.seen g.D.Device.may_leave g.D.Device.moment g.D.Device.left_since c.args.self.now

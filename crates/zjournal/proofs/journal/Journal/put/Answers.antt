@@ -41,7 +41,7 @@ returns-clause-kept g c servers batches is_open rest =
     rests g.D.Device.seen g.D.Device.may_leave g.D.Device.moment g.D.Device.left_since c.args.self.now servers batches rest
     c.args.batch.now c.as_slice-block.result.now (sym c.contains.ensures.value ∙ c.if-contains.false) (c.as_slice-block.ensures.value ∙ c.in_ok-block.ensures
     ∙ ap (λ (n : ℕ). (digits n ++ c.args.batch.now) ++ 0 ∷ 0 ∷ []) c.sum_after-sum.ensures)
-    _ refl c.in_ok-add_block.ensures.added c.after-self.ensures.format (search rules) (search rules) c.in_ok-add_block.ensures.durable
+    _ refl c.in_ok-add_block.ensures.added c.after-self.ensures.start (search rules) (search rules) c.in_ok-add_block.ensures.durable
 
 pub returns-clause-sound : goal.returns-clause-sound
 returns-clause-sound g c is_open =
@@ -52,7 +52,7 @@ returns-clause-sound g c is_open =
           c.args.batch.now c.as_slice-block.result.now (sym c.contains.ensures.value ∙ c.if-contains.false)
           (c.as_slice-block.ensures.value ∙ c.in_ok-block.ensures
           ∙ ap (λ (n : ℕ). (digits n ++ c.args.batch.now) ++ 0 ∷ 0 ∷ []) c.sum_after-sum.ensures)
-          _ refl c.in_ok-add_block.ensures.added c.after-self.ensures.format (search rules) (search rules) c.in_ok-add_block.ensures.durable,
+          _ refl c.in_ok-add_block.ensures.added c.after-self.ensures.start (search rules) (search rules) c.in_ok-add_block.ensures.durable,
     )
 
 pub returns-in_err-add_block-clause-sound : goal.returns-in_err-add_block-clause-sound

@@ -57,7 +57,7 @@ returns-clause-added g c servers batches next_ones is_open renewing =
     (stamped_text c.args.self.now.renewed.sum c.args.batch.now (tested_text c.args.batch.now (sym c.contains.ensures.value ∙ c.if-contains.false)))
     refl refl c.add_open_block.ensures.untouched
     (c.in_ok-add_open_block.ensures.added (stamped c.args.self.now.renewed.sum c.args.batch.now) is) c.as_slice-block.result.now is
-    c.after-self.ensures.format (search rules) (search rules)
+    c.after-self.ensures.start (search rules) (search rules)
 
 pub returns-clause-rest : goal.returns-clause-rest
 returns-clause-rest g c servers batches rest =
@@ -82,7 +82,7 @@ returns-clause-renewing g c is_open =
           (stamped_text c.args.self.now.renewed.sum c.args.batch.now (tested_text c.args.batch.now (sym c.contains.ensures.value
           ∙ c.if-contains.false))) refl refl c.add_open_block.ensures.untouched
           (c.in_ok-add_open_block.ensures.added (stamped c.args.self.now.renewed.sum c.args.batch.now) is) c.as_slice-block.result.now is
-          c.after-self.ensures.format (search rules) (search rules),
+          c.after-self.ensures.start (search rules) (search rules),
     )
 
 pub returns-clause-sound : goal.returns-clause-sound
