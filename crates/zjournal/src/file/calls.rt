@@ -3,7 +3,10 @@
 use std::fs;
 use std::fs::{File, Files};
 use std::io::Write;
-use std::os::unix::fs::FileExt;
+use std::os::unix::fs::{FileExt, MetadataExt};
+
+// After so many bytes that are freed, a file is synced.
+const STEP: usize = 1 << 20;
 
 /// Writes all the bytes at this offset.
 pub(crate) fn write_all(file: &File, at: usize, bytes: &[u8]) -> bool {
@@ -13,6 +16,22 @@ pub(crate) fn write_all(file: &File, at: usize, bytes: &[u8]) -> bool {
 /// Cuts the file to this length.
 pub(crate) fn cut(file: &File, len: usize) -> bool {
     file.set_len(len as u64).is_ok()
+}
+
+/// Frees the bytes of a file that has lost all its names. It is cut in steps, each made durable:
+/// one long cut would hold up the syncs of a server.
+pub(crate) fn free(file: &File) {
+    let mut left = match file.metadata() {
+        Ok(found) if found.nlink() == 0 => found.len() as usize,
+        _ => return,
+    };
+    while left > STEP {
+        left -= STEP;
+        if !cut(file, left) || !sync(file) {
+            return;
+        }
+    }
+    cut(file, 0);
 }
 
 /// Waits until what was written is durable.

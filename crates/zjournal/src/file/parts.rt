@@ -152,14 +152,23 @@ pub(crate) fn new_part<R: Files<File = File>>(
     })
 }
 
-/// Removes the parts before the last one, downward as far as that can be done.
+/// Removes the parts before the last one, downward as far as that can be done. Each loses its name
+/// before its bytes are freed, so who copies it sees that it isn't whole.
 pub(crate) fn remove_before<R: Files<File = File>>(files: &R, place: &Place) {
     let mut number = place.part;
     while number > 0 {
-        match place.path_of(number) {
-            Ok(path) if calls::remove(files, &path) => number -= 1,
-            _ => return,
+        let path = match place.path_of(number) {
+            Ok(path) => path,
+            Err(_) => return,
+        };
+        let part = open_part(files, &path);
+        if !calls::remove(files, &path) {
+            return;
         }
+        if let Ok(part) = &part {
+            calls::free(part);
+        }
+        number -= 1;
     }
 }
 

@@ -91,8 +91,8 @@ impl<R: Files<File = File> + Copy> FileDevice<R> {
         }
     }
 
-    // Makes the folder durable, with the name. Then the old file is cut to nothing, and the parts
-    // before it are removed.
+    // Makes the folder durable, with the name. Then the bytes of the old file are freed, and the
+    // parts before it are removed.
     pub(super) fn sync_folder(&mut self) -> Result<(), DeviceError>
         requires whole { ends_with_name (replay (events_of self.old)).changes ≡ true }
         requires sound { (replay (events_of self.old)).has_failed ≡ false }
@@ -108,7 +108,7 @@ impl<R: Files<File = File> + Copy> FileDevice<R> {
             self.log.note(&[FOLDER_SYNCED, self.mode.noted(), 1], &[]);
             self.is_moved = false;
             if let Some(former) = &self.former {
-                calls::cut(former, 0);
+                calls::free(former);
             }
             parts::remove_before(&self.files, &self.place);
             self.place.part = 0;
