@@ -119,6 +119,30 @@ def beginning(builds):
         want_same(files_of(folder), ["journal", "journal.2", "secret"], "one part before the last")
 
 
+def freed(builds):
+    """What a compaction replaces is freed in steps that are synced, but not under another name."""
+    folder, library = new_folder(builds), builds.compiled("syncs.so", *SYNCS)
+    with Server(builds, folder) as server, server.client() as it:
+        it.create("/a")
+        for _ in range(5 * BLOCKS):
+            it.set("/a", PAD)
+    held, other, noted = bytes_of(f"{folder}/journal"), f"{folder}.other", f"{folder}.noted"
+    places = [held.index(b"\0\1", len(held) * it // 5) + 1 for it in (2, 4)]
+    for kept, cuts in ((None, b"(co)+cu(co)+c"), ("journal.2", b"u(co)+c"), ("journal.1", b"(co)+cu")):
+        put(folder, held, places)
+        if kept:
+            os.link(f"{folder}/{kept}", other)
+            before = bytes_of(other)
+        wrap = "env", f"LD_PRELOAD={library}", f"NOTED={noted}"
+        with locked(f"{folder}/journal"):
+            want_same(do(builds, folder, "beginning", wrap=wrap)[0], 0, "beginning")
+        want(re.search(b"[wso]" + cuts + b"r+$", bytes_of(noted)), f"{bytes_of(noted)}")
+        os.remove(noted)
+        if kept:
+            want_same(bytes_of(other), before, "what another name holds")
+            os.remove(other)
+
+
 def begun(builds):
     """A server is killed at each call by which it begins a part. No change is lost."""
     library = builds.compiled("syncs.so", *SYNCS)
@@ -212,5 +236,5 @@ def beside(builds):
 
 
 def tests(builds):
-    each = reads, beginning, begun, beside
+    each = reads, beginning, freed, begun, beside
     return [Test(f"folder: parts: {it.__name__}", 15, lambda _, it=it: it(builds)) for it in each]

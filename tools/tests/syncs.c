@@ -1,6 +1,7 @@
 /* Preloaded into a program. Each call adds a letter to the file that NOTED names: w is a write to a
-   file, s a sync of the file written last, o another sync, and r a write to standard output. While
-   the file that FAULTS names is there, that many syncs succeed, and the next fails; or no lock is.
+   file, s a sync of the file written last, o another sync, and r a write to standard output; u
+   removes a name, c cuts a file by 1 MiB or less, and l by more. While the file that FAULTS names is
+   there, that many syncs succeed, and the next fails; or no lock is.
    Before the call with the number AT, of those that change files or names, the program gets the
    signal SENT: calls are counted from 0 on, with FROM from the first link on. */
 #define _GNU_SOURCE
@@ -9,6 +10,7 @@
 #include <signal.h>
 #include <stdlib.h>
 #include <string.h>
+#include <sys/stat.h>
 #include <sys/syscall.h>
 #include <unistd.h>
 
@@ -74,5 +76,15 @@ int rename(const char *from, const char *to) {
     return syscall(SYS_renameat2, AT_FDCWD, from, AT_FDCWD, to, 0);
 }
 
-int unlink(const char *path) { return count(0), syscall(SYS_unlinkat, AT_FDCWD, path, 0); }
-int ftruncate(int file, off_t size) { return count(0), syscall(SYS_ftruncate, file, size); }
+int unlink(const char *path) {
+    count(0);
+    note('u');
+    return syscall(SYS_unlinkat, AT_FDCWD, path, 0);
+}
+
+int ftruncate(int file, off_t size) {
+    struct stat found;
+    count(0);
+    note(!fstat(file, &found) && found.st_size - size > 1 << 20 ? 'l' : 'c');
+    return syscall(SYS_ftruncate, file, size);
+}
