@@ -7,7 +7,8 @@ the memory that the program takes for each node. A server is in memory, or keeps
 
 The second has the seconds to open that folder, and what a lone connection sees that sets one node
 again and again: the median and the longest of its requests. It is alone, or beside writes that make
-the journal grow, which is compacted or not.
+the journal grow, which is compacted or not. The last column is the longest wait without the moments
+in which the machine ran nothing on one of its processors (gaps.py).
 """
 import contextlib
 import statistics
@@ -17,6 +18,7 @@ import time
 
 import measuring
 import frames
+import gaps
 import loads
 import running
 import serve
@@ -24,6 +26,8 @@ import serve
 NODES, SIZE, PARENTS, SHAPE = 1_000_000, 100, 1_000, (4, 200)
 # The greatest numbers of a round of creates, and the MiB from which on a journal is long.
 ROUND, LONG = 100_000, 64
+# The seconds from which on a wait counts as one of the longest.
+LEAST = 0.005
 
 
 def memory(server):
@@ -64,16 +68,16 @@ def tell_rates(server, first, times, each):
     measuring.row(server.name, f"{count:,}", *rates, f"{each:,.0f}")
 
 
-def waits(server, seconds, until=None):
-    """The seconds of each request of a lone connection for so long, or until that is true."""
+def waits(server, seconds):
+    """When each request of a lone connection begins and ends, for so long."""
     asked, found = frames.request(1, frames.SET, frames.set_body("/d-000", bytes(1_000))), []
     with loads.session(server.port) as it:
         end = time.monotonic() + seconds
-        while time.monotonic() < end and not (until and until()):
+        while time.monotonic() < end:
             began = time.monotonic()
             it.sendall(asked)
             measuring.want(len(it.recv(88, 0x100)) == 88, "no answer")
-            found.append(time.monotonic() - began)
+            found.append((began, time.monotonic()))
     return found
 
 
@@ -86,9 +90,13 @@ def written(server, load, stop):
             next(loads.call(load, [(it, it)], asked, 50, PARENTS, answer))
 
 
-def tell_waits(name, found):
-    """Prints a row of the second table."""
-    ms = (f"{it * 1e3:,.1f}" for it in (statistics.median(found), max(found)))
+def tell_waits(name, asked):
+    """Prints a row of the second table, of what this asks."""
+    with gaps.Gaps() as seen:
+        found = asked()
+    each = [end - begin for begin, end in found]
+    less = [end - begin - seen.within(begin, end) for begin, end in found if end - begin > LEAST]
+    ms = (f"{it * 1e3:,.1f}" for it in (statistics.median(each), max(each), max(less, default=0)))
     measuring.row(name, f"{len(found):,}", *ms)
 
 
@@ -111,12 +119,12 @@ def of_folder(builds, load, nodes, seconds):
     it.stop()
     it = serve.kept(builds, folder, journal=serve.NEVER)
     print(f"\nopened in {it.opened:.1f} s")
-    measuring.head("Requests", "Count", "Median, ms", "Longest, ms")
-    tell_waits("alone", waits(it, seconds))
-    tell_waits("beside writes", beside(it, load, seconds))
+    measuring.head("Requests", "Count", "Median, ms", "Longest, ms", "Less the machine's gaps")
+    tell_waits("alone", lambda: waits(it, seconds))
+    tell_waits("beside writes", lambda: beside(it, load, 3 * seconds))
     it.stop()
     it = serve.kept(builds, folder, journal=LONG)
-    tell_waits("beside writes and compactions", beside(it, load, 3 * seconds))
+    tell_waits("beside writes and compactions", lambda: beside(it, load, 3 * seconds))
     it.stop()
 
 
