@@ -21,23 +21,19 @@ fn letters(alloc: Global, count: usize) -> Option<Vec<u8>> {
     Some(batch)
 }
 
-// Renews the file with this many batches. Whether all of it was done.
-fn renew<D: Device>(alloc: Global, journal: &mut Journal<D>, count: usize) -> bool
+// Renews the file with this many batches.
+fn renew<D: Device>(alloc: Global, journal: &mut Journal<D>, count: usize) -> Result<(), PutError>
     requires { IsSound D.seen D.may_leave journal.old }
     ensures { IsSound D.seen D.may_leave journal.new }
 {
-    if journal.begin_renewal(1).is_err() {
-        return false;
-    }
+    journal.begin_renewal(1)?;
     for i in 0..count {
         let Some(batch) = letters(alloc, SIZES[i % 4]) else {
-            return false;
+            return Err(PutError::Memory);
         };
-        if journal.put_renewed(&batch).is_err() {
-            return false;
-        }
+        journal.put_renewed(&batch)?;
     }
-    journal.end_renewal().is_ok()
+    journal.end_renewal()
 }
 
 // How many letters this many batches have.
@@ -102,7 +98,7 @@ fn is_kept(alloc: Global, count: usize, chance: u64) -> bool {
     let Some(old) = text_in(alloc, &journal.device().current().disk, chance) else {
         return false;
     };
-    if !renew(alloc, &mut journal, count) {
+    if renew(alloc, &mut journal, count).is_err() {
         return false;
     }
     let file = journal.device();
@@ -142,7 +138,7 @@ fn is_reported(alloc: Global, calls: u64, chance: u64) -> bool {
     let Some(old) = text_in(alloc, &journal.device().current().disk, chance) else {
         return false;
     };
-    if renew(alloc, &mut journal, 2) {
+    if renew(alloc, &mut journal, 2).is_ok() {
         return false;
     }
     let steps = journal.device().past().len();
@@ -174,9 +170,9 @@ fn a_renewed_file_takes_batches(rt: HostRuntime) -> Result<(), Fail> {
         return Err("a journal".into());
     };
     assert_eq!(rt; put_all(&mut journal, 5), 5);
-    assert!(rt; renew(alloc, &mut journal, 2));
+    assert!(rt; renew(alloc, &mut journal, 2).is_ok());
     assert!(rt; journal.put(b"xyz").is_ok());
-    assert!(rt; renew(alloc, &mut journal, 1));
+    assert!(rt; renew(alloc, &mut journal, 1).is_ok());
     assert!(rt; journal.put(b"abc").is_ok());
     assert!(rt; journal.put(b"de").is_ok());
     let text = text_in(alloc, &journal.device().current().disk, 7).ok_or("a text")?;
@@ -191,11 +187,13 @@ fn an_unfinished_renewal_counts_for_nothing(rt: HostRuntime) -> Result<(), Fail>
         return Err("a journal".into());
     };
     assert!(rt; journal.put(b"abc").is_ok());
-    assert!(rt; journal.begin_renewal(1).is_ok());
+    let Ok(()) = journal.begin_renewal(1) else {
+        return Err("a new file".into());
+    };
     assert!(rt; journal.put_renewed(b"x").is_ok());
     let text = text_in(alloc, &journal.device().current().disk, 7).ok_or("a text")?;
     assert_eq!(rt; text.as_slice(), b"abc".as_slice());
-    assert!(rt; renew(alloc, &mut journal, 1));
+    assert!(rt; renew(alloc, &mut journal, 1).is_ok());
     let text = text_in(alloc, &journal.device().current().disk, 7).ok_or("a text")?;
     assert_eq!(rt; text.as_slice(), b"rrr".as_slice());
     Ok(())
@@ -207,7 +205,9 @@ fn other_batches_are_refused(rt: HostRuntime) -> Result<(), Fail> {
     let Ok((mut journal, _)) = open(alloc, MemoryFile::new(alloc, &[], 7, u64::MAX)?, 3) else {
         return Err("a journal".into());
     };
-    assert!(rt; journal.begin_renewal(1).is_ok());
+    let Ok(()) = journal.begin_renewal(1) else {
+        return Err("a new file".into());
+    };
     assert_eq!(rt; journal.put_renewed(b"a\0b"), Err(PutError::NotText));
     Ok(())
 }

@@ -40,8 +40,12 @@ fn another_file_ends_with_the_same_sum(rt: HostRuntime) -> Result<(), Fail> {
     let Ok((mut journal, _)) = open(alloc, MemoryFile::new(alloc, NEW, 0, u64::MAX)?, 3) else {
         return Err("a journal".into());
     };
-    assert!(rt; journal.begin_renewal(6_422_625).is_ok());
-    assert!(rt; journal.put_renewed(b"c").is_ok());
+    let Ok(()) = journal.begin_renewal(6_422_625) else {
+        return Err("a new file".into());
+    };
+    let Ok(()) = journal.put_renewed(b"c") else {
+        return Err("a batch".into());
+    };
     assert!(rt; journal.end_renewal().is_ok());
     assert_eq!(rt; journal.sum(), 19_267_780);
     assert!(rt; journal.put(b"d").is_ok());
