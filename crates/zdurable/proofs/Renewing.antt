@@ -1,17 +1,21 @@
 -- A journal that is compacted: a new file is written beside the old one, chunk by chunk.
-use Rattle.std.proofs.Common.{◌≡◌, inl, inr, ⊎_elim, ◌∙◌, ℕ, ◌+◌, ◌<◌, ◌≤◌, ◌^◌, ◌-◌, List, [], ◌∷◌, ◌++◌, length, map}
+use Rattle.std.proofs.Common.{◌≡◌, ◌⊎◌, inl, inr, ⊎_elim, ◌∙◌, ℕ, ◌+◌, ◌<◌, ◌≤◌, ◌^◌, ◌-◌, List, [], ◌∷◌, ◌++◌, length, map}
 use Rattle.std.proofs.Common.{refl, sym, ap, subst, arith, append_assoc, append-nil}
 use Rattle.std.proofs.lemmas.List.{map_push}
 use Rattle.std.specs.declared.vec.Vec.{Vec}
 use Rattle.std.specs.declared.alloc.Global.{Global}
 use Rattle.ztree.specs.Tree.{Tree}
 use Rattle.zjournal.specs.Device.{LeavesOnly}
-use Rattle.zjournal.specs.Blocks.{IsText, AreTexts, blocks}
+use Rattle.zjournal.specs.Blocks.{IsText, AreTexts, at_rest, blocks}
+use Rattle.zjournal.specs.Checksum.{IsSum}
 use Rattle.zjournal.specs.Journal.{holdings, IsAtRest, Keeps, IsOpen, device_of, start_of}
-use Rattle.zjournal.specs.Renewal.{IsRenewing, IsInRenewal, IsOldOrNew, renewed_size_of, renewed_start_of}
+use Rattle.zjournal.specs.Renewal.{IsRenewing, IsInRenewal, renewed_size_of, renewed_start_of}
 use Rattle.zjournal.specs.Scan.{joined}
+use Rattle.zjournal.specs.Untouched.{IsTaking, IsUntouched}
 use Rattle.zjournal.specs.declared.journal.Journal.{Journal}
+use Rattle.zjournal.proofs.Files.{rest_keeps}
 use Rattle.zjournal.proofs.Moments.{joined_runs, started, weaker}
+use Rattle.zjournal.proofs.Renewals.{untouched_both}
 use Rattle.zsnapshots.specs.folder.Compaction.{CompactionView, IsChunk, IsAllWritten, text_left}
 use Rattle.zsnapshots.specs.folder.Texts.{row_records, snapshot_text, IsKeepable, IsTextOf}
 use Rattle.zsnapshots.proofs.folder_lemmas.Apart.{snapshots_keep}
@@ -74,43 +78,46 @@ pub keeps_either : (servers : ℕ) (batches : List (List ℕ)) (before now : Tre
 keeps_either servers batches before now text file (inl keeps) = inl (batches, keeps, text)
 keeps_either servers batches before now text file (inr is) = inr is
 
-module _ {D : Type 0} (moment : D → ℕ) (left_since : D → ℕ → List ℕ → Type 0) (old new : D) (servers : ℕ) (batches : List (List ℕ))
-    (tree : Tree) where
-  -- the old file only
-  pub leaves_old : LeavesOnly moment left_since old new (Keeps servers batches) → LeavesOnly moment left_since old new (IsOldOrTree servers batches tree)
-  leaves_old run = weaker moment left_since old new (Keeps servers batches) (IsOldOrTree servers batches tree) run (λ file keeps. inl keeps)
-
-  -- the old file or the new one
-  pub leaves_new : (done : List (List ℕ)) → IsTextOf tree (joined done) → LeavesOnly moment left_since old new (IsOldOrNew servers batches done)
-      → LeavesOnly moment left_since old new (IsOldOrTree servers batches tree)
-  leaves_new done text run =
-      weaker moment left_since old new (IsOldOrNew servers batches done) (IsOldOrTree servers batches tree) run
-      (λ file keeps. ⊎_elim (λ was. inl was) (λ is. inr (done, is, text)) keeps)
+-- a file at rest has its batches
+pub rests_keep : (start : ℕ) → IsSum start → (servers : ℕ) (batches : List (List ℕ)) → AreTexts (holdings start servers batches)
+    → (file : List ℕ) → file ≡ at_rest (holdings start servers batches) → Keeps servers batches file
+rests_keep start is_sum servers batches texts file is =
+    rest_keeps start is_sum servers batches file (length (blocks (holdings start servers batches))) texts is refl
 
 -- ---- the old file
 
 module _ {D : Type 0} (seen : D → List ℕ) (may_leave : D → List ℕ → Type 0) (moment : D → ℕ) (left_since : D → ℕ → List ℕ
-    → Type 0) (old : Journal D) (servers : ℕ) (batches : List (List ℕ)) (rest : IsAtRest seen may_leave servers batches old)
-    (now : (file : List ℕ) → left_since (device_of old) (moment (device_of old)) file → may_leave (device_of old) file) where
-  -- nothing was asked of the device
-  pub stays_keeping : LeavesOnly moment left_since (device_of old) (device_of old) (Keeps servers batches)
-  stays_keeping =
-      let keeps : Keeps servers batches (seen (device_of old)) = record {
-        start = start_of old;
-        is_sum = rest.place.is_sum;
-        texts = rest.texts;
-        end = 0
-            ∷ [];
-        split = rest.file;
-        counts_for_nothing = tt;
-      } in
-      started moment left_since (device_of old) (Keeps servers batches) (λ file left. subst (Keeps servers batches)
-      (sym (rest.durable file (now file left))) keeps)
+    → Type 0) (old : Journal D) (servers : ℕ) (batches : List (List ℕ)) (rest : IsAtRest seen may_leave servers batches old) where
+  is_old : (tree : Tree) (file : List ℕ) → file ≡ seen (device_of old) → IsOldOrTree servers batches tree file
+  is_old tree file is = inl (rests_keep (start_of old) rest.place.is_sum servers batches rest.texts file (is ∙ rest.file))
 
-  pub stays_old : (tree : Tree) → LeavesOnly moment left_since (device_of old) (device_of old) (IsOldOrTree servers batches tree)
-  stays_old tree = leaves_old moment left_since (device_of old) (device_of old) servers batches tree stays_keeping
+  -- nothing of it has changed
+  pub leaves_old : (now : Journal D) → IsUntouched seen may_leave moment left_since (device_of old) (device_of now)
+      → (tree : Tree) → LeavesOnly moment left_since (device_of old) (device_of now) (IsOldOrTree servers batches tree)
+  leaves_old now untouched tree =
+      weaker moment left_since (device_of old) (device_of now) (λ file. file ≡ seen (device_of old)) (IsOldOrTree servers batches tree)
+      untouched.any_moment (is_old tree)
+
+  module _ (now : (file : List ℕ) → left_since (device_of old) (moment (device_of old)) file → may_leave (device_of old) file) where
+    -- nothing was asked of the device
+    pub stays : LeavesOnly moment left_since (device_of old) (device_of old) (λ file. file ≡ seen (device_of old))
+    stays = started moment left_since (device_of old) (λ file. file ≡ seen (device_of old)) (λ file left. rest.durable file (now file left))
+
+    pub stays_keeping : LeavesOnly moment left_since (device_of old) (device_of old) (Keeps servers batches)
+    stays_keeping =
+        weaker moment left_since (device_of old) (device_of old) (λ file. file ≡ seen (device_of old)) (Keeps servers batches) stays
+        (λ file is. rests_keep (start_of old) rest.place.is_sum servers batches rest.texts file (is ∙ rest.file))
+
+    pub stays_old : (tree : Tree) → LeavesOnly moment left_since (device_of old) (device_of old) (IsOldOrTree servers batches tree)
+    stays_old tree =
+        weaker moment left_since (device_of old) (device_of old) (λ file. file ≡ seen (device_of old)) (IsOldOrTree servers batches tree) stays
+        (is_old tree)
 
 -- ---- the new file
+
+-- the old file, or the new one, at rest
+abbrev pub IsOldOrEnded : List ℕ → ℕ → ℕ → List (List ℕ) → List ℕ → Type 0
+IsOldOrEnded old start servers done file = (file ≡ old) ⊎ (file ≡ at_rest (holdings start servers done))
 
 module _ {D : Type 0} (seen : D → List ℕ) (may_leave : D → List ℕ → Type 0) (beside : D → List ℕ) (moment : D
     → ℕ) (left_since : D → ℕ → List ℕ → Type 0) where
@@ -122,33 +129,56 @@ module _ {D : Type 0} (seen : D → List ℕ) (may_leave : D → List ℕ → Ty
     pub from : renewed_start_of now ≡ start
     pub so_far : (servers : ℕ) (batches : List (List ℕ)) → IsAtRest seen may_leave servers batches old
         → IsRenewing seen may_leave beside servers batches done now
-    pub leaves : (servers : ℕ) (batches : List (List ℕ)) → IsAtRest seen may_leave servers batches old
-        → LeavesOnly moment left_since (device_of old) (device_of now) (Keeps servers batches)
+    pub untouched : (servers : ℕ) (batches : List (List ℕ)) → IsAtRest seen may_leave servers batches old
+        → IsUntouched seen may_leave moment left_since (device_of old) (device_of now)
 
   module _ (start : ℕ) (old now : Journal D) (done : List (List ℕ)) (writing : IsWriting start old now done) where
     module _ (servers : ℕ) (batches : List (List ℕ)) (rest : IsAtRest seen may_leave servers batches old) where
-      -- a run that continues over the old file
-      pub keeps_more : (new : Journal D)
-          → ((servers : ℕ) (batches : List (List ℕ)) → IsAtRest seen may_leave servers batches now
-          → LeavesOnly moment left_since (device_of now) (device_of new) (Keeps servers batches))
-          → LeavesOnly moment left_since (device_of old) (device_of new) (Keeps servers batches)
-      keeps_more new run =
-          joined_runs moment left_since (device_of old) (device_of now) (device_of new) (Keeps servers batches)
-          (writing.leaves servers batches rest) (run servers batches (writing.so_far servers batches rest).rest)
+      next : IsRenewing seen may_leave beside servers batches done now
+      next = writing.so_far servers batches rest
 
-      -- one that ends here
-      pub ends_here : (tree : Tree) → LeavesOnly moment left_since (device_of old) (device_of now) (IsOldOrTree servers batches tree)
-      ends_here tree = leaves_old moment left_since (device_of old) (device_of now) servers batches tree (writing.leaves servers batches rest)
+      pub from_sum : IsSum start
+      from_sum = subst IsSum writing.from next.place.is_sum
+
+      pub next_texts : AreTexts (holdings start servers done)
+      next_texts = subst (λ (n : ℕ). AreTexts (holdings n servers done)) writing.from next.texts
+
+      -- a run that goes on beside the old file
+      pub untouched_more : (new : Journal D)
+          → ((servers : ℕ) (batches : List (List ℕ)) → IsAtRest seen may_leave servers batches now
+          → IsUntouched seen may_leave moment left_since (device_of now) (device_of new))
+          → IsUntouched seen may_leave moment left_since (device_of old) (device_of new)
+      untouched_more new run =
+          untouched_both seen may_leave moment left_since (device_of old) (device_of now) (device_of new)
+          (writing.untouched servers batches rest) (run servers batches next.rest)
 
       -- and one at whose end the new file replaces the old one
+      pub ended : (new : Journal D)
+          → ((servers : ℕ) (batches next : List (List ℕ)) → IsRenewing seen may_leave beside servers batches next now
+          → LeavesOnly moment left_since (device_of now) (device_of new) (IsTaking (seen (device_of now)) (beside (device_of now))))
+          → LeavesOnly moment left_since (device_of old) (device_of new) (IsOldOrEnded (seen (device_of old)) start servers done)
+      ended new run =
+          let untouched = writing.untouched servers batches rest in
+          joined_runs moment left_since (device_of old) (device_of now) (device_of new) (IsOldOrEnded (seen (device_of old)) start servers done)
+          (weaker moment left_since (device_of old) (device_of now) (λ file. file ≡ seen (device_of old)) (IsOldOrEnded (seen (device_of old)) start servers done)
+          untouched.any_moment (λ file is. inl is))
+          (weaker moment left_since (device_of now) (device_of new) (IsTaking (seen (device_of now)) (beside (device_of now)))
+          (IsOldOrEnded (seen (device_of old)) start servers done) (run servers batches done next)
+          (λ file left. ⊎_elim (λ is. inl (is ∙ untouched.same))
+          (λ is. inr (is
+          ∙ ap (λ (l : List ℕ). l ++ 0 ∷ []) next.so_far
+          ∙ ap (λ (n : ℕ). at_rest (holdings n servers done)) writing.from)) left))
+
+      -- which holds the tree
       pub replaces : (tree : Tree) → IsTextOf tree (joined done) → (new : Journal D)
           → ((servers : ℕ) (batches next : List (List ℕ)) → IsRenewing seen may_leave beside servers batches next now
-          → LeavesOnly moment left_since (device_of now) (device_of new) (IsOldOrNew servers batches next))
+          → LeavesOnly moment left_since (device_of now) (device_of new) (IsTaking (seen (device_of now)) (beside (device_of now))))
           → LeavesOnly moment left_since (device_of old) (device_of new) (IsOldOrTree servers batches tree)
       replaces tree text new run =
-          joined_runs moment left_since (device_of old) (device_of now) (device_of new) (IsOldOrTree servers batches tree) (ends_here tree)
-          (leaves_new moment left_since (device_of now) (device_of new) servers batches tree done text
-          (run servers batches done (writing.so_far servers batches rest)))
+          weaker moment left_since (device_of old) (device_of new) (IsOldOrEnded (seen (device_of old)) start servers done) (IsOldOrTree servers batches tree)
+          (ended new run)
+          (λ file left. ⊎_elim (is_old seen may_leave moment left_since old servers batches rest tree file)
+          (λ is. inr (done, rests_keep start from_sum servers done next_texts file is, text)) left)
 
     -- one batch more
     pub goes_on : (new : Journal D) (given : List ℕ) → IsOpen new → IsInRenewal seen may_leave beside new
@@ -156,15 +186,15 @@ module _ {D : Type 0} (seen : D → List ℕ) (may_leave : D → List ℕ → Ty
         → ((servers : ℕ) (batches next : List (List ℕ)) → IsOpen now → IsRenewing seen may_leave beside servers batches next now
         → IsRenewing seen may_leave beside servers batches (next ++ given ∷ []) new)
         → ((servers : ℕ) (batches : List (List ℕ)) → IsAtRest seen may_leave servers batches now
-        → LeavesOnly moment left_since (device_of now) (device_of new) (Keeps servers batches))
+        → IsUntouched seen may_leave moment left_since (device_of now) (device_of new))
         → IsWriting start old new (done ++ given ∷ [])
-    goes_on new given is_open renewing same adds leaves = record {
+    goes_on new given is_open renewing same adds untouched = record {
       was_open = writing.was_open;
       is_open = is_open;
       renewing = renewing;
       from = same ∙ writing.from;
       so_far = λ servers batches rest. adds servers batches done writing.is_open (writing.so_far servers batches rest);
-      leaves = λ servers batches rest. keeps_more servers batches rest new leaves;
+      untouched = λ servers batches rest. untouched_more servers batches rest new untouched;
     }
 
   -- the beginning
@@ -173,15 +203,15 @@ module _ {D : Type 0} (seen : D → List ℕ) (may_leave : D → List ℕ → Ty
       → ((servers : ℕ) (batches : List (List ℕ)) → IsOpen old → IsAtRest seen may_leave servers batches old
       → IsRenewing seen may_leave beside servers batches [] new)
       → ((servers : ℕ) (batches : List (List ℕ)) → IsAtRest seen may_leave servers batches old
-      → LeavesOnly moment left_since (device_of old) (device_of new) (Keeps servers batches))
+      → IsUntouched seen may_leave moment left_since (device_of old) (device_of new))
       → IsWriting start old new []
-  begun start old new was_open is_open renewing from begins leaves = record {
+  begun start old new was_open is_open renewing from begins untouched = record {
     was_open = was_open;
     is_open = is_open;
     renewing = renewing;
     from = from;
     so_far = λ servers batches rest. begins servers batches was_open rest;
-    leaves = leaves;
+    untouched = untouched;
   }
 
   -- the new file is full before its end

@@ -65,6 +65,10 @@ pub record MayReplace (servers : ℕ) (t : Tree) (old new : List ℕ) : Type 0 w
   pub new_text : IsTextOf t (joined next)
   pub same_sum : sum_after_all old_start before ≡ sum_after_all new_start next
 
+-- the old file, or one that can take its place
+abbrev pub IsOldOrReplaces : ℕ → Tree → List ℕ → List ℕ → Type 0
+IsOldOrReplaces servers t old file = (file ≡ old) ⊎ MayReplace servers t old file
+
 -- The last part: blocks of these entries, of which the first checksum continues from this sum, and
 -- what a crash left after them.
 pub record IsLastPart (sum : ℕ) (entries : List Entry) (part : List ℕ) : Type 0 where

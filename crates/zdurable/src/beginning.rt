@@ -11,7 +11,7 @@ ghost use Rattle.zjournal.specs.Device.{LeavesOnly};
 ghost use Rattle.zjournal.specs.Journal.{IsAtRest, device_of, sum_of};
 ghost use Rattle.zjournal.specs.Journal as file;
 ghost use Rattle.zjournal.specs.Scan.{joined};
-ghost use Rattle.zdurable.specs.Compaction.{IsOldOrTree, RestsAfter};
+ghost use Rattle.zdurable.specs.Compaction.{IsOldOrReplaces, RestsAfter};
 ghost use Rattle.zsnapshots.specs.folder.Texts.{snapshot_text, IsTextOf};
 
 use crate::fault::DurableFault;
@@ -22,7 +22,8 @@ use zsnapshots::folder::Compaction;
 use ztree_service::LocalTree;
 
 /// Writes the text of the tree beside the journal's file, and replaces that file with it. The
-/// checksum of the next batch continues from the same sum as before.
+/// checksum of the next batch continues from the same sum as before. At each moment a crash leaves
+/// the old file, or one that can take its place.
 pub(crate) fn compact_beginning<D: Device>(
     alloc: Global,
     journal: &mut Journal<D>,
@@ -36,8 +37,9 @@ pub(crate) fn compact_beginning<D: Device>(
     ensures sum { OnOk result (sum_of journal.new ≡ sum_of journal.old) }
     ensures any_moment { (servers : ℕ) (batches : List (List ℕ))
         → IsAtRest D.seen D.may_leave servers batches journal.old
+        → IsTextOf tree.now.tree (joined batches)
         → LeavesOnly D.moment D.left_since (device_of journal.old) (device_of journal.new)
-        (IsOldOrTree servers batches tree.now.tree) }
+        (IsOldOrReplaces servers tree.now.tree (D.seen (device_of journal.old))) }
     ensures open { OnOk result (file.IsOpen journal.new) }
 {
     let chunks = chunks_of(alloc, tree)?;

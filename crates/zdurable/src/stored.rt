@@ -6,7 +6,7 @@ ghost use Rattle.zjournal.specs.Device.{LeavesOnly, Only};
 ghost use Rattle.zjournal.specs.Journal.{Represents};
 ghost use Rattle.zjournal.specs.Scan.{joined};
 ghost use Rattle.zdurable.specs.Faults.{IsOfReading, IsSuchFile};
-ghost use Rattle.zdurable.specs.Compaction.{MayReplace};
+ghost use Rattle.zdurable.specs.Compaction.{IsOldOrReplaces, MayReplace};
 ghost use Rattle.zdurable.specs.DurableFront.{KeepsTree};
 ghost use Rattle.zdurable.specs.Stored.{bytes_of, file_of, tree_of, IsGood, IsStored};
 ghost use Rattle.zsnapshots.specs.folder.Texts.{snapshot_text};
@@ -106,8 +106,8 @@ impl<D: Device> Stored<D> {
     }
 
     /// Replaces the file, which is all parts of a journal but the last one, with one that holds the
-    /// tree alone. The last part continues from the new file as from the old one. At each moment a
-    /// crash leaves a file with the same tree. After a fault it is to be opened again.
+    /// tree alone. At each moment a crash leaves the old file, or one that can take its place: the
+    /// last part continues from it as from the old one. After a fault it is to be opened again.
     pub fn compact_beginning(&mut self) -> Result<(), DurableFault>
         requires { IsGood D.seen D.may_leave self.old }
         ensures kept { (servers : ℕ) (batches : List (List ℕ))
@@ -122,7 +122,7 @@ impl<D: Device> Stored<D> {
         ensures any_moment { (servers : ℕ) (batches : List (List ℕ))
             → IsStored D.seen D.may_leave servers batches self.old
             → LeavesOnly D.moment D.left_since (file_of self.old) (file_of self.new)
-            (KeepsTree servers (tree_of self.old)) }
+            (IsOldOrReplaces servers (tree_of self.old) (D.seen (file_of self.old))) }
     {
         compact_beginning(self.alloc, &mut self.journal, &self.tree)?;
         Ok(())

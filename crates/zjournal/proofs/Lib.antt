@@ -9,7 +9,7 @@ pub mod Moments
 mod Opens
 pub mod Puts
 pub mod Readings
-mod Renewals
+pub mod Renewals
 mod Runs
 pub mod Scan
 mod Steps

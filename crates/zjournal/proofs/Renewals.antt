@@ -1,5 +1,5 @@
 -- What the steps of a renewal leave.
-use Rattle.std.proofs.Common.{◌≡◌, ◌-◌, inl, inr, ⊎_elim, ℕ, ◌+◌, List, [], ◌∷◌, ◌++◌, length, take, sym, ◌∙◌, ap}
+use Rattle.std.proofs.Common.{◌≡◌, ◌-◌, inl, inr, ⊎_elim, ℕ, ◌+◌, List, [], ◌∷◌, ◌++◌, length, take, refl, sym, ◌∙◌, ap}
 use Rattle.std.proofs.Common.{subst, arith, append_assoc, length-append}
 use Rattle.std.proofs.lemmas.List.{take_at}
 use Rattle.zjournal.specs.declared.journal.Journal.{Journal}
@@ -8,7 +8,7 @@ use Rattle.zjournal.specs.Blocks.{IsText, AreTexts, at_rest, blocks}
 use Rattle.zjournal.specs.Checksum.{IsSum, adler_after, stamped}
 use Rattle.zjournal.specs.Journal.{head, holdings, Keeps, IsAtRest, IsPlace}
 use Rattle.zjournal.specs.declared.place.Place.{Place}
-use Rattle.zjournal.specs.Renewal.{IsRenewing, IsOldOrNew}
+use Rattle.zjournal.specs.Renewal.{IsRenewing}
 use Rattle.zjournal.specs.Untouched.{IsUntouched, IsTaking}
 use Rattle.zjournal.proofs.Moments.{started, goes_on, joined_runs, weaker}
 use Rattle.zjournal.proofs.Opens.{only_read, only_left}
@@ -67,19 +67,20 @@ module _ {D : Type 0} (seen : D → List ℕ) (may_leave : D → List ℕ → Ty
       (λ c left. ⊎_elim (λ before. inl (untouched.durable c before ∙ untouched.same)) (λ now. inr (now ∙ is)) (either c left))
 
   module _ (journal : Journal D) (servers : ℕ) (batches : List (List ℕ)) (rest : IsAtRest seen may_leave servers batches journal) where
-    keeps_old : (c : List ℕ) → c ≡ seen journal.device → Keeps servers batches c
-    keeps_old c is = subst (Keeps servers batches) (sym is) (rest_keeps journal.place.start rest.place.is_sum servers batches (seen journal.device)
-        journal.place.end rest.texts rest.file rest.place.end)
-
     -- nothing was asked of the device
     pub not_asked : ((c : List ℕ) → left_since journal.device (moment journal.device) c → may_leave journal.device c)
-        → LeavesOnly moment left_since journal.device journal.device (Keeps servers batches)
-    not_asked now = started moment left_since journal.device (Keeps servers batches) (λ c left. keeps_old c (rest.durable c (now c left)))
+        → IsUntouched seen may_leave moment left_since journal.device journal.device
+    not_asked now = record {
+      same = refl;
+      durable = rest.durable;
+      any_moment = started moment left_since journal.device (λ c. c ≡ seen journal.device) (λ c left. rest.durable c (now c left));
+    }
 
     pub untouched_keeps : (new : D) → IsUntouched seen may_leave moment left_since journal.device new
         → LeavesOnly moment left_since journal.device new (Keeps servers batches)
-    untouched_keeps new untouched = weaker moment left_since journal.device new (λ c. c ≡ seen journal.device)
-        (Keeps servers batches) untouched.any_moment keeps_old
+    untouched_keeps new untouched = weaker moment left_since journal.device new (λ c. c ≡ seen journal.device) (Keeps servers batches)
+        untouched.any_moment (λ c is. subst (Keeps servers batches) (sym is) (rest_keeps journal.place.start rest.place.is_sum servers batches
+        (seen journal.device) journal.place.end rest.texts rest.file rest.place.end))
 
     pub still_rests : (later : Journal D) → later.servers ≡ journal.servers → later.place ≡ journal.place
         → IsUntouched seen may_leave moment left_since journal.device later.device → IsAtRest seen may_leave servers batches later
@@ -146,24 +147,6 @@ module _ {D : Type 0} (seen : D → List ℕ) (may_leave : D → List ℕ → Ty
           durable = only;
         }
 
-    keeps_new : (c : List ℕ) → c ≡ beside journal.device ++ 0 ∷ [] → Keeps servers next_ones c
-    keeps_new c is = record {
-      start = journal.renewed.start;
-      is_sum = renewing.place.is_sum;
-      texts = renewing.texts;
-      end = 0 ∷ [];
-      split = is
-          ∙ ap (λ (l : List ℕ). l ++ 0 ∷ []) renewing.so_far;
-      counts_for_nothing = tt;
-    }
-
-    pub old_or_new : (new : D) → LeavesOnly moment left_since journal.device new (IsTaking (seen journal.device) (beside journal.device))
-        → LeavesOnly moment left_since journal.device new (IsOldOrNew servers batches next_ones)
-    old_or_new new run = weaker moment left_since journal.device new (IsTaking (seen journal.device) (beside journal.device))
-        (IsOldOrNew servers batches next_ones) run
-        (λ c left. ⊎_elim (λ is. inl (keeps_old journal servers batches renewing.rest c is)) (λ is. inr (keeps_new c is)) left)
-
-    pub old_not_asked : ((c : List ℕ) → left_since journal.device (moment journal.device) c → may_leave journal.device c)
-        → LeavesOnly moment left_since journal.device journal.device (IsOldOrNew servers batches next_ones)
-    old_not_asked now = started moment left_since journal.device (IsOldOrNew servers batches next_ones)
-        (λ c left. inl (keeps_old journal servers batches renewing.rest c (renewing.rest.durable c (now c left))))
+    pub not_taken : ((c : List ℕ) → left_since journal.device (moment journal.device) c → may_leave journal.device c)
+        → LeavesOnly moment left_since journal.device journal.device (IsTaking (seen journal.device) (beside journal.device))
+    not_taken now = taking_not journal.device journal.device (beside journal.device) (not_asked journal servers batches renewing.rest now)

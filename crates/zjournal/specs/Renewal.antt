@@ -1,11 +1,11 @@
 -- How a journal's file is renewed: a new file with other batches is written beside it, block by
 -- block. Then it is ended, and replaces the old one.
-use Rattle.std.specs.Prelude.{◌≡◌, ◌⊎◌, ℕ, List}
+use Rattle.std.specs.Prelude.{◌≡◌, ℕ, List}
 use Rattle.zjournal.specs.declared.fault.PutError.{PutError}
 use Rattle.zjournal.specs.declared.fault.PutError.TheVariants.{Memory, Failed, NotText, Full, Closed}
 use Rattle.zjournal.specs.declared.journal.Journal.{Journal}
 use Rattle.zjournal.specs.Blocks.{AreTexts, blocks}
-use Rattle.zjournal.specs.Journal.{device_of, holdings, Keeps, IsAtRest, IsOpen, IsPlace}
+use Rattle.zjournal.specs.Journal.{device_of, holdings, IsAtRest, IsOpen, IsPlace}
 
 -- of the new file: the length in bytes of its blocks, and the sum from which its first checksum
 -- continues
@@ -26,10 +26,6 @@ pub record IsRenewing {D : Type 0} (seen : D → List ℕ) (may_leave : D → Li
 -- a journal that takes batches is being renewed
 abbrev pub IsInRenewal : {D : Type 0} → (D → List ℕ) → (D → List ℕ → Type 0) → (D → List ℕ) → Journal D → Type 0
 IsInRenewal seen may_leave beside journal = IsOpen journal → (servers : ℕ) × (batches next : List (List ℕ)) × IsRenewing seen may_leave beside servers batches next journal
-
--- the file holds the old batches, or the next ones
-abbrev pub IsOldOrNew : ℕ → List (List ℕ) → List (List ℕ) → List ℕ → Type 0
-IsOldOrNew servers batches next file = Keeps servers batches file ⊎ Keeps servers next file
 
 -- at most the device has changed: the journal takes batches exactly if it did before
 abbrev pub IsOnlyCalled : {D : Type 0} → Journal D → Journal D → Type 0

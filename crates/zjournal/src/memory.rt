@@ -5,7 +5,7 @@
 //! so one run shows what power cuts leave at each moment. The moments count its failures too: a
 //! separate counter could overflow, and each contract would have to exclude that.
 
-ghost use Rattle.std.specs.Prelude.{◌≡◌, ◌⊎◌, [], ◌∷◌, ◌++◌, List, ℕ, length, true};
+ghost use Rattle.std.specs.Prelude.{◌≡◌, ◌⊎◌, [], ◌∷◌, ◌++◌, length, true};
 ghost use Rattle.std.specs.Prelude.{IfOk, OnOk, OnErr};
 ghost use Rattle.std.proofs.Common.{inl};
 ghost use Rattle.zjournal.specs.Device.{Elapses, HasCause, Only};

@@ -10,10 +10,10 @@
 //! left. Where that is more than one byte it is a caller's to report it. A file that ends as it
 //! should isn't written: it may be one that another process reads.
 
-ghost use Rattle.std.specs.Prelude.{◌≡◌, ◌<◌, ◌≤◌, ◌++◌, [], ◌∷◌, List, ℕ, length};
+ghost use Rattle.std.specs.Prelude.{◌≡◌, ◌<◌, ◌≤◌, [], List, ℕ, length};
 ghost use Rattle.std.specs.Prelude.{IfOk, IfErr, OnOk, IsErrOf};
 ghost use Rattle.zjournal.specs.Device.{Only, LeavesOnly};
-ghost use Rattle.zjournal.specs.Blocks.{AreTexts, blocks, at_rest};
+ghost use Rattle.zjournal.specs.Blocks.{blocks, at_rest};
 ghost use Rattle.zjournal.specs.Journal.{holdings, IsUnmade, Represents, IsAtRest, IsOpen, IsSound};
 ghost use Rattle.zjournal.specs.Journal.{device_of, start_of, Keeps};
 ghost use Rattle.zjournal.specs.Scan.{joined};

@@ -13,10 +13,11 @@ ghost use Rattle.std.specs.Prelude.{OnOk, IfErr, IsErrOf};
 ghost use Rattle.zjournal.specs.Blocks.{IsText};
 ghost use Rattle.zjournal.specs.Device.{LeavesOnly};
 ghost use Rattle.zjournal.specs.Checksum.{IsSum};
-ghost use Rattle.zjournal.specs.Journal.{IsAtRest, IsOpen, IsSound, Keeps, device_of, start_of};
+ghost use Rattle.zjournal.specs.Journal.{IsAtRest, IsOpen, IsSound, device_of, start_of};
 ghost use Rattle.zjournal.specs.Puts.{IsLeftBy};
-ghost use Rattle.zjournal.specs.Renewal.{IsInRenewal, IsOldOrNew, IsRenewing, IsStoppedBy};
+ghost use Rattle.zjournal.specs.Renewal.{IsInRenewal, IsRenewing, IsStoppedBy};
 ghost use Rattle.zjournal.specs.Renewal.{renewed_size_of, renewed_start_of};
+ghost use Rattle.zjournal.specs.Untouched.{IsTaking, IsUntouched};
 
 use crate::beside::{add_open_block, begin_file, close_and_take};
 use crate::checksum::{block_of, sum_after};
@@ -37,10 +38,10 @@ impl<D: Device> Journal<D> {
         ensures rest { (servers : ℕ) (batches : List (List ℕ))
             → IsAtRest D.seen D.may_leave servers batches self.old
             → IsAtRest D.seen D.may_leave servers batches self.new }
-        ensures any_moment { (servers : ℕ) (batches : List (List ℕ))
+        ensures untouched { (servers : ℕ) (batches : List (List ℕ))
             → IsAtRest D.seen D.may_leave servers batches self.old
-            → LeavesOnly D.moment D.left_since (device_of self.old) (device_of self.new)
-            (Keeps servers batches) }
+            → IsUntouched D.seen D.may_leave D.moment D.left_since
+            (device_of self.old) (device_of self.new) }
         ensures renewing { OnOk result (IsInRenewal D.seen D.may_leave D.beside self.new) }
         ensures start { OnOk result (renewed_start_of self.new ≡ start) }
         ensures sound { IsSound D.seen D.may_leave self.new }
@@ -73,10 +74,10 @@ impl<D: Device> Journal<D> {
         ensures rest { (servers : ℕ) (batches : List (List ℕ))
             → IsAtRest D.seen D.may_leave servers batches self.old
             → IsAtRest D.seen D.may_leave servers batches self.new }
-        ensures any_moment { (servers : ℕ) (batches : List (List ℕ))
+        ensures untouched { (servers : ℕ) (batches : List (List ℕ))
             → IsAtRest D.seen D.may_leave servers batches self.old
-            → LeavesOnly D.moment D.left_since (device_of self.old) (device_of self.new)
-            (Keeps servers batches) }
+            → IsUntouched D.seen D.may_leave D.moment D.left_since
+            (device_of self.old) (device_of self.new) }
         ensures renewing { OnOk result (IsInRenewal D.seen D.may_leave D.beside self.new) }
         ensures start { renewed_start_of self.new ≡ renewed_start_of self.old }
         ensures sound { IsSound D.seen D.may_leave self.new }
@@ -119,7 +120,7 @@ impl<D: Device> Journal<D> {
         ensures any_moment { (servers : ℕ) (batches next : List (List ℕ))
             → IsRenewing D.seen D.may_leave D.beside servers batches next self.old
             → LeavesOnly D.moment D.left_since (device_of self.old) (device_of self.new)
-            (IsOldOrNew servers batches next) }
+            (IsTaking (D.seen (device_of self.old)) (D.beside (device_of self.old))) }
         ensures sound { IsSound D.seen D.may_leave self.new }
         ensures open { OnOk result (IsOpen self.old × IsOpen self.new) }
         ensures failed { IsErrOf result PutError.Failed

@@ -1,13 +1,13 @@
 //! Worked examples: each function's contract has some, and its body is empty.
 
-ghost use Rattle.std.specs.Prelude.{◌≡◌, [], ◌∷◌, ◌++◌, List, ℕ, codes, length};
+ghost use Rattle.std.specs.Prelude.{◌≡◌, [], ◌∷◌, ◌++◌, List, ℕ, codes};
 ghost use Rattle.zjournal.specs.Blocks.{at_rest, IsEnd};
 ghost use Rattle.zjournal.specs.Checksum.{adler_after, stamped, stamped_all, sum_after_all};
 ghost use Rattle.zjournal.specs.Device.{Cut, IsEither, Torn};
 ghost use Rattle.zjournal.specs.declared.fault.OpenError.TheVariants.{Damaged, Old, Other};
 ghost use Rattle.zjournal.specs.Faults.{IsSuch};
 ghost use Rattle.zjournal.specs.Journal.{head, head_of, holdings, IsUnmade, Keeps};
-ghost use Rattle.zjournal.specs.Renewal.{IsOldOrNew};
+ghost use Rattle.zjournal.specs.Untouched.{IsTaking};
 
 /// A checksum, one that continues from another, and a text after its own.
 pub fn texts_have_checksums()
@@ -97,5 +97,6 @@ pub fn new_files_take_the_place()
     ensures next { IsEither (λ c. c ≡ 1 ∷ []) (2 ∷ 3 ∷ []) (2 ∷ 3 ∷ []) }
     ensures part { IsEither (λ c. c ≡ 1 ∷ []) (2 ∷ 3 ∷ []) (2 ∷ []) → ⊥ }
     ensures nothing { IsEither (λ c. c ≡ 1 ∷ []) (2 ∷ 3 ∷ []) [] → ⊥ }
-    ensures renewed { IsOldOrNew 3 ((97 ∷ []) ∷ []) [] (at_rest (holdings 1 3 [])) }
+    ensures closed { IsTaking (1 ∷ []) (2 ∷ []) (2 ∷ 0 ∷ []) }
+    ensures unclosed { IsTaking (1 ∷ []) (2 ∷ []) (2 ∷ []) → ⊥ }
 {}

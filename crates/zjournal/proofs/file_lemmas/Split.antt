@@ -2,7 +2,7 @@
 use Rattle.std.proofs.Common.{◌≡◌, inl, sym, subst, Bool, true, List, ℕ, ◌∷◌, length, arith}
 use Rattle.zjournal.specs.declared.file.mode.SyncMode.{SyncMode}
 use Rattle.zjournal.specs.Device.{Elapses}
-use Rattle.zjournal.specs.file.Events.{Event, replay, part_begun, part_settled, part_named, part_kept, MayLeave}
+use Rattle.zjournal.specs.file.Events.{Event, part_begun, part_settled, part_named, part_kept, MayLeave}
 use Rattle.zjournal.specs.file.Moments.{LeftSince, left_now}
 use Rattle.zjournal.proofs.Moments.{elapses_both}
 use Rattle.zjournal.proofs.file_lemmas.Named.{one_more}

@@ -6,7 +6,8 @@ use Rattle.zjournal.specs.Checksum.{sum_after_all}
 use Rattle.zjournal.specs.Journal.{device_of}
 use Rattle.zjournal.specs.Scan.{joined}
 use Rattle.zsnapshots.specs.folder.Texts.{IsTextOf}
-use Rattle.zdurable.proofs.Renewing.{IsWriting, begun, goes_on, keeps_more, leaves_old, replaces, stays_old, texts_in}
+use Rattle.zdurable.proofs.Parts.{ends_or_replaces, stays_or_replaces}
+use Rattle.zdurable.proofs.Renewing.{IsWriting, begun, goes_on, stays, texts_in, untouched_more}
 use Rattle.zdurable.proofs.beginning.compact_beginning.Goals as goal
 
 pub start_before-start-requires : goal.start_before-start-requires
@@ -14,29 +15,31 @@ start_before-start-requires g c =
     let was = c.requires.sound c.requires.open in c.sum.ensures.is_sum was.0 was.1 was.2
 
 pub returns-in_err-chunks-clause-any_moment : goal.returns-in_err-chunks-clause-any_moment
-returns-in_err-chunks-clause-any_moment g c servers batches rest =
-    stays_old g.D.Device.seen g.D.Device.may_leave g.D.Device.moment g.D.Device.left_since c.args.journal.now servers batches rest
-    (g.met.D.Device.only_now (device_of c.args.journal.now)) c.args.tree.now.tree
+returns-in_err-chunks-clause-any_moment g c servers batches rest text =
+    stays_or_replaces g.D.Device.seen g.D.Device.moment g.D.Device.left_since c.args.journal.now c.args.journal.now servers
+    c.args.tree.now.tree
+    (stays g.D.Device.seen g.D.Device.may_leave g.D.Device.moment g.D.Device.left_since c.args.journal.now servers batches rest
+    (g.met.D.Device.only_now (device_of c.args.journal.now)))
 
 pub returns-in_err-begin_renewal-clause-any_moment : goal.returns-in_err-begin_renewal-clause-any_moment
-returns-in_err-begin_renewal-clause-any_moment g c servers batches rest =
-    leaves_old g.D.Device.moment g.D.Device.left_since (device_of c.args.journal.now) (device_of c.begin_renewal.new.self) servers batches
-    c.args.tree.now.tree (c.begin_renewal.ensures.any_moment servers batches rest)
+returns-in_err-begin_renewal-clause-any_moment g c servers batches rest text =
+    stays_or_replaces g.D.Device.seen g.D.Device.moment g.D.Device.left_since c.args.journal.now c.begin_renewal.new.self servers
+    c.args.tree.now.tree (c.begin_renewal.ensures.untouched servers batches rest).any_moment
 
 pub loop-text-init : goal.loop-text-init
 loop-text-init g c =
     begun g.D.Device.seen g.D.Device.may_leave g.D.Device.beside g.D.Device.moment g.D.Device.left_since c.start_before-start.result
     c.args.journal.now c.begin_renewal.new.self c.in_ok-begin_renewal.ensures.open.0 c.in_ok-begin_renewal.ensures.open.1
     c.in_ok-begin_renewal.ensures.renewing c.in_ok-begin_renewal.ensures.start c.in_ok-begin_renewal.ensures.begun
-    c.begin_renewal.ensures.any_moment
+    c.begin_renewal.ensures.untouched
 
 pub returns-in_err-put_renewed-clause-any_moment : goal.returns-in_err-put_renewed-clause-any_moment
-returns-in_err-put_renewed-clause-any_moment g c servers batches rest =
-    leaves_old g.D.Device.moment g.D.Device.left_since (device_of c.args.journal.now) (device_of c.put_renewed.new.self) servers batches
+returns-in_err-put_renewed-clause-any_moment g c servers batches rest text =
+    stays_or_replaces g.D.Device.seen g.D.Device.moment g.D.Device.left_since c.args.journal.now c.put_renewed.new.self servers
     c.args.tree.now.tree
-    (keeps_more g.D.Device.seen g.D.Device.may_leave g.D.Device.beside g.D.Device.moment g.D.Device.left_since c.start_before-start.result
+    (untouched_more g.D.Device.seen g.D.Device.may_leave g.D.Device.beside g.D.Device.moment g.D.Device.left_since c.start_before-start.result
     c.args.journal.now c.loop-text.journal (texts_in (take c.loop-text.text-index c.as_slice-texts.result.now)) c.loop-text.invariant
-    servers batches rest c.put_renewed.new.self c.put_renewed.ensures.any_moment)
+    servers batches rest c.put_renewed.new.self c.put_renewed.ensures.untouched).any_moment
 
 pub loop-text-preserved : goal.loop-text-preserved
 loop-text-preserved g c =
@@ -50,28 +53,36 @@ loop-text-preserved g c =
     (goes_on g.D.Device.seen g.D.Device.may_leave g.D.Device.beside g.D.Device.moment g.D.Device.left_since c.start_before-start.result
     c.args.journal.now c.loop-text.journal done c.loop-text.invariant c.put_renewed.new.self c.deref.result.now
     c.in_ok-put_renewed.ensures.open.1 c.in_ok-put_renewed.ensures.renewing c.put_renewed.ensures.start
-    c.in_ok-put_renewed.ensures.added c.put_renewed.ensures.any_moment)
+    c.in_ok-put_renewed.ensures.added c.put_renewed.ensures.untouched)
 
 pub returns-in_err-end_renewal-clause-any_moment : goal.returns-in_err-end_renewal-clause-any_moment
-returns-in_err-end_renewal-clause-any_moment g c servers batches rest =
+returns-in_err-end_renewal-clause-any_moment g c servers batches rest text =
     let texts = c.as_slice-texts.result.now in
     let done = texts_in (take c.loop-text.text-index texts) in
     let all : texts_in c.in_ok-chunks.chunks.items ≡ done =
     ap texts_in (sym c.as_slice-texts.ensures.value ∙ sym (take_all c.loop-text.text-index texts c.loop-text-test.false)) in
-    replaces g.D.Device.seen g.D.Device.may_leave g.D.Device.beside g.D.Device.moment g.D.Device.left_since c.start_before-start.result
-    c.args.journal.now c.loop-text.journal done c.loop-text.invariant servers batches rest c.args.tree.now.tree
+    ends_or_replaces g.D.Device.seen g.D.Device.may_leave g.D.Device.beside g.D.Device.moment g.D.Device.left_since
+    c.start_before-start.result c.args.journal.now c.loop-text.journal done c.loop-text.invariant servers batches rest
+    c.args.tree.now.tree text
     (subst (λ (l : List (List ℕ)). IsTextOf c.args.tree.now.tree (joined l)) all c.in_ok-chunks.ensures.keeps)
+    (ap (λ (l : List (Vec ℕ Global)). sum_after_all c.start_before-start.result (texts_in l))
+    (take_all c.loop-text.text-index texts c.loop-text-test.false)
+    ∙ c.start_before-start.ensures.sum ∙ c.sum.ensures.sum)
     c.end_renewal.new.self c.end_renewal.ensures.any_moment
 
 pub returns-clause-any_moment : goal.returns-clause-any_moment
-returns-clause-any_moment g c servers batches rest =
+returns-clause-any_moment g c servers batches rest text =
     let texts = c.as_slice-texts.result.now in
     let done = texts_in (take c.loop-text.text-index texts) in
     let all : texts_in c.in_ok-chunks.chunks.items ≡ done =
     ap texts_in (sym c.as_slice-texts.ensures.value ∙ sym (take_all c.loop-text.text-index texts c.loop-text-test.false)) in
-    replaces g.D.Device.seen g.D.Device.may_leave g.D.Device.beside g.D.Device.moment g.D.Device.left_since c.start_before-start.result
-    c.args.journal.now c.loop-text.journal done c.loop-text.invariant servers batches rest c.args.tree.now.tree
+    ends_or_replaces g.D.Device.seen g.D.Device.may_leave g.D.Device.beside g.D.Device.moment g.D.Device.left_since
+    c.start_before-start.result c.args.journal.now c.loop-text.journal done c.loop-text.invariant servers batches rest
+    c.args.tree.now.tree text
     (subst (λ (l : List (List ℕ)). IsTextOf c.args.tree.now.tree (joined l)) all c.in_ok-chunks.ensures.keeps)
+    (ap (λ (l : List (Vec ℕ Global)). sum_after_all c.start_before-start.result (texts_in l))
+    (take_all c.loop-text.text-index texts c.loop-text-test.false)
+    ∙ c.start_before-start.ensures.sum ∙ c.sum.ensures.sum)
     c.end_renewal.new.self c.end_renewal.ensures.any_moment
 
 pub returns-clause-kept : goal.returns-clause-kept

@@ -4,8 +4,8 @@ use Rattle.std.proofs.lemmas.Result.{err_from_is_err_and}
 use Rattle.zjournal.specs.Journal.{device_of}
 use Rattle.zdurable.specs.declared.fault.DurableFault.TheVariants as ending
 use Rattle.zdurable.proofs.Opening.{full_is}
-use Rattle.zdurable.proofs.Renewing.{begun, chunk_shorter, ends_here, goes_on, keeps_more, leaves_old, no_chunk, one_chunk, replaces}
-use Rattle.zdurable.proofs.Renewing.{stays_old, text_is, text_keeps, too_long}
+use Rattle.zdurable.proofs.Renewing.{begun, chunk_shorter, goes_on, leaves_old, no_chunk, one_chunk, replaces}
+use Rattle.zdurable.proofs.Renewing.{stays_old, text_is, text_keeps, too_long, untouched_more}
 use Rattle.zdurable.proofs.compaction.compact.Goals as goal
 
 pub returns-in_err-text-clause-any_moment : goal.returns-in_err-text-clause-any_moment
@@ -16,8 +16,8 @@ returns-in_err-text-clause-any_moment g c servers batches rest =
 
 pub returns-in_err-begin_renewal-clause-any_moment : goal.returns-in_err-begin_renewal-clause-any_moment
 returns-in_err-begin_renewal-clause-any_moment g c servers batches rest =
-    leaves_old g.D.Device.moment g.D.Device.left_since (device_of c.args.journal.now) (device_of c.begin_renewal.new.self) servers batches
-    c.args.tree.now.tree (c.begin_renewal.ensures.any_moment servers batches rest)
+    leaves_old g.D.Device.seen g.D.Device.may_leave g.D.Device.moment g.D.Device.left_since c.args.journal.now servers batches rest
+    c.begin_renewal.new.self (c.begin_renewal.ensures.untouched servers batches rest) c.args.tree.now.tree
 
 pub loop-text-init : goal.loop-text-init
 loop-text-init g c = (
@@ -25,23 +25,23 @@ loop-text-init g c = (
   begun g.D.Device.seen g.D.Device.may_leave g.D.Device.beside g.D.Device.moment g.D.Device.left_since 1
       c.args.journal.now c.begin_renewal.new.self c.in_ok-begin_renewal.ensures.open.0 c.in_ok-begin_renewal.ensures.open.1
       c.in_ok-begin_renewal.ensures.renewing c.in_ok-begin_renewal.ensures.start c.in_ok-begin_renewal.ensures.begun
-      c.begin_renewal.ensures.any_moment,
+      c.begin_renewal.ensures.untouched,
   no_chunk c.args.tree.now.tree c.in_ok-text.text c.in_ok-text.ensures.begun,
   c.begin_renewal.ensures.faults,
 )
 
 pub returns-in_err-chunk-clause-any_moment : goal.returns-in_err-chunk-clause-any_moment
 returns-in_err-chunk-clause-any_moment g c servers batches rest =
-    ends_here g.D.Device.seen g.D.Device.may_leave g.D.Device.beside g.D.Device.moment g.D.Device.left_since 1
-    c.args.journal.now c.loop-text.journal c.loop-text.invariant.0 c.loop-text.invariant.1 servers batches rest c.args.tree.now.tree
+    leaves_old g.D.Device.seen g.D.Device.may_leave g.D.Device.moment g.D.Device.left_since c.args.journal.now servers batches rest
+    c.loop-text.journal (c.loop-text.invariant.1.untouched servers batches rest) c.args.tree.now.tree
 
 pub returns-in_err-put_renewed-clause-any_moment : goal.returns-in_err-put_renewed-clause-any_moment
 returns-in_err-put_renewed-clause-any_moment g c servers batches rest =
-    leaves_old g.D.Device.moment g.D.Device.left_since (device_of c.args.journal.now) (device_of c.put_renewed.new.self) servers batches
-    c.args.tree.now.tree
-    (keeps_more g.D.Device.seen g.D.Device.may_leave g.D.Device.beside g.D.Device.moment g.D.Device.left_since 1
+    leaves_old g.D.Device.seen g.D.Device.may_leave g.D.Device.moment g.D.Device.left_since c.args.journal.now servers batches rest
+    c.put_renewed.new.self
+    (untouched_more g.D.Device.seen g.D.Device.may_leave g.D.Device.beside g.D.Device.moment g.D.Device.left_since 1
     c.args.journal.now c.loop-text.journal c.loop-text.invariant.0 c.loop-text.invariant.1 servers batches rest c.put_renewed.new.self
-    c.put_renewed.ensures.any_moment)
+    c.put_renewed.ensures.untouched) c.args.tree.now.tree
 
 pub loop-text-preserved : goal.loop-text-preserved
 loop-text-preserved g c = (
@@ -49,7 +49,7 @@ loop-text-preserved g c = (
   goes_on g.D.Device.seen g.D.Device.may_leave g.D.Device.beside g.D.Device.moment g.D.Device.left_since 1
       c.args.journal.now c.loop-text.journal c.loop-text.invariant.0 c.loop-text.invariant.1 c.put_renewed.new.self c.deref.result.now
       c.in_ok-put_renewed.ensures.open.1 c.in_ok-put_renewed.ensures.renewing c.put_renewed.ensures.start
-      c.in_ok-put_renewed.ensures.added c.put_renewed.ensures.any_moment,
+      c.in_ok-put_renewed.ensures.added c.put_renewed.ensures.untouched,
   one_chunk c.args.tree.now.tree c.loop-text.text c.next_chunk.new.self c.loop-text.invariant.0 c.in-Some.chunk.items c.deref.result.now
       c.loop-text.invariant.2 (rw c.in-Some.is at c.in_ok-chunk.ensures.chunk) c.deref.ensures.value,
   omega (arith, c.loop-text.invariant.3, c.put_renewed.ensures.faults),

@@ -1,9 +1,9 @@
 use Rattle.std.proofs.Common.{refl, [], rules}
-use Rattle.zjournal.proofs.Renewals.{not_asked, untouched_keeps, still_rests, renewal_begun}
+use Rattle.zjournal.proofs.Renewals.{not_asked, still_rests, renewal_begun}
 use Rattle.zjournal.proofs.journal.Journal.begin_renewal.Goals as goal
 
-pub returns-then-not-self-clause-any_moment : goal.returns-then-not-self-clause-any_moment
-returns-then-not-self-clause-any_moment g c servers batches rest =
+pub returns-then-not-self-clause-untouched : goal.returns-then-not-self-clause-untouched
+returns-then-not-self-clause-untouched g c servers batches rest =
     not_asked g.D.Device.seen g.D.Device.may_leave g.D.Device.moment g.D.Device.left_since c.args.self.now servers
     batches rest (g.met.D.Device.only_now c.args.self.now.device)
 
@@ -12,10 +12,8 @@ returns-in_err-begin_file-clause-rest g c servers batches rest =
     still_rests g.D.Device.seen g.D.Device.may_leave g.D.Device.moment g.D.Device.left_since c.args.self.now servers
     batches rest _ refl refl c.begin_file.ensures.untouched
 
-pub returns-in_err-begin_file-clause-any_moment : goal.returns-in_err-begin_file-clause-any_moment
-returns-in_err-begin_file-clause-any_moment g c servers batches rest =
-    untouched_keeps g.D.Device.seen g.D.Device.may_leave g.D.Device.moment g.D.Device.left_since c.args.self.now servers
-    batches rest c.begin_file.new.device c.begin_file.ensures.untouched
+pub returns-in_err-begin_file-clause-untouched : goal.returns-in_err-begin_file-clause-untouched
+returns-in_err-begin_file-clause-untouched g c servers batches rest = c.begin_file.ensures.untouched
 
 pub returns-in_err-begin_file-clause-sound : goal.returns-in_err-begin_file-clause-sound
 returns-in_err-begin_file-clause-sound g c is_open =
@@ -37,10 +35,8 @@ returns-clause-rest g c servers batches rest =
     still_rests g.D.Device.seen g.D.Device.may_leave g.D.Device.moment g.D.Device.left_since c.args.self.now servers
     batches rest _ refl refl c.begin_file.ensures.untouched
 
-pub returns-clause-any_moment : goal.returns-clause-any_moment
-returns-clause-any_moment g c servers batches rest =
-    untouched_keeps g.D.Device.seen g.D.Device.may_leave g.D.Device.moment g.D.Device.left_since c.args.self.now servers
-    batches rest c.begin_file.new.device c.begin_file.ensures.untouched
+pub returns-clause-untouched : goal.returns-clause-untouched
+returns-clause-untouched g c servers batches rest = c.begin_file.ensures.untouched
 
 pub returns-clause-renewing : goal.returns-clause-renewing
 returns-clause-renewing g c is_open =

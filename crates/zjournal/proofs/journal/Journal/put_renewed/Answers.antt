@@ -2,26 +2,26 @@ use Rattle.std.proofs.Common.{refl, sym, ap, ℕ, ◌∙◌, ◌++◌, ◌∷◌
 use Rattle.zjournal.specs.Checksum.{digits, stamped}
 use Rattle.zjournal.proofs.Sums.{stamped_text}
 use Rattle.zjournal.proofs.Puts.{tested_text, tested_zero}
-use Rattle.zjournal.proofs.Renewals.{not_asked, untouched_keeps, still_rests, renewal_added}
+use Rattle.zjournal.proofs.Renewals.{not_asked, still_rests, renewal_added}
 use Rattle.zjournal.proofs.journal.Journal.put_renewed.Goals as goal
 
-pub returns-then-not-self-clause-any_moment : goal.returns-then-not-self-clause-any_moment
-returns-then-not-self-clause-any_moment g c servers batches rest =
+pub returns-then-not-self-clause-untouched : goal.returns-then-not-self-clause-untouched
+returns-then-not-self-clause-untouched g c servers batches rest =
     not_asked g.D.Device.seen g.D.Device.may_leave g.D.Device.moment g.D.Device.left_since c.args.self.now servers
     batches rest (g.met.D.Device.only_now c.args.self.now.device)
 
-pub returns-then-contains-clause-any_moment : goal.returns-then-contains-clause-any_moment
-returns-then-contains-clause-any_moment g c servers batches rest =
+pub returns-then-contains-clause-untouched : goal.returns-then-contains-clause-untouched
+returns-then-contains-clause-untouched g c servers batches rest =
     not_asked g.D.Device.seen g.D.Device.may_leave g.D.Device.moment g.D.Device.left_since c.args.self.now servers
     batches rest (g.met.D.Device.only_now c.args.self.now.device)
 
-pub returns-then-self-ge-MAX_BYTES-clause-any_moment : goal.returns-then-self-ge-MAX_BYTES-clause-any_moment
-returns-then-self-ge-MAX_BYTES-clause-any_moment g c servers batches rest =
+pub returns-then-self-ge-MAX_BYTES-clause-untouched : goal.returns-then-self-ge-MAX_BYTES-clause-untouched
+returns-then-self-ge-MAX_BYTES-clause-untouched g c servers batches rest =
     not_asked g.D.Device.seen g.D.Device.may_leave g.D.Device.moment g.D.Device.left_since c.args.self.now servers
     batches rest (g.met.D.Device.only_now c.args.self.now.device)
 
-pub returns-in_err-block-clause-any_moment : goal.returns-in_err-block-clause-any_moment
-returns-in_err-block-clause-any_moment g c servers batches rest =
+pub returns-in_err-block-clause-untouched : goal.returns-in_err-block-clause-untouched
+returns-in_err-block-clause-untouched g c servers batches rest =
     not_asked g.D.Device.seen g.D.Device.may_leave g.D.Device.moment g.D.Device.left_since c.args.self.now servers
     batches rest (g.met.D.Device.only_now c.args.self.now.device)
 
@@ -34,10 +34,8 @@ returns-in_err-add_open_block-clause-rest g c servers batches rest =
     still_rests g.D.Device.seen g.D.Device.may_leave g.D.Device.moment g.D.Device.left_since c.args.self.now servers
     batches rest _ refl refl c.add_open_block.ensures.untouched
 
-pub returns-in_err-add_open_block-clause-any_moment : goal.returns-in_err-add_open_block-clause-any_moment
-returns-in_err-add_open_block-clause-any_moment g c servers batches rest =
-    untouched_keeps g.D.Device.seen g.D.Device.may_leave g.D.Device.moment g.D.Device.left_since c.args.self.now servers
-    batches rest c.add_open_block.new.device c.add_open_block.ensures.untouched
+pub returns-in_err-add_open_block-clause-untouched : goal.returns-in_err-add_open_block-clause-untouched
+returns-in_err-add_open_block-clause-untouched g c servers batches rest = c.add_open_block.ensures.untouched
 
 pub returns-in_err-add_open_block-clause-sound : goal.returns-in_err-add_open_block-clause-sound
 returns-in_err-add_open_block-clause-sound g c is_open =
@@ -64,10 +62,8 @@ returns-clause-rest g c servers batches rest =
     still_rests g.D.Device.seen g.D.Device.may_leave g.D.Device.moment g.D.Device.left_since c.args.self.now servers
     batches rest _ refl refl c.add_open_block.ensures.untouched
 
-pub returns-clause-any_moment : goal.returns-clause-any_moment
-returns-clause-any_moment g c servers batches rest =
-    untouched_keeps g.D.Device.seen g.D.Device.may_leave g.D.Device.moment g.D.Device.left_since c.args.self.now servers
-    batches rest c.add_open_block.new.device c.add_open_block.ensures.untouched
+pub returns-clause-untouched : goal.returns-clause-untouched
+returns-clause-untouched g c servers batches rest = c.add_open_block.ensures.untouched
 
 pub returns-clause-renewing : goal.returns-clause-renewing
 returns-clause-renewing g c is_open =

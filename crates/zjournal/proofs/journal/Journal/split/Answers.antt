@@ -5,8 +5,9 @@ use Rattle.zjournal.proofs.journal.Journal.split.Goals as goal
 
 pub returns-then-not-self-clause-any_moment : goal.returns-then-not-self-clause-any_moment
 returns-then-not-self-clause-any_moment g c servers batches rest =
-    not_asked g.D.Device.seen g.D.Device.may_leave g.D.Device.moment g.D.Device.left_since c.args.self.now servers
-    batches rest (g.met.D.Device.only_now c.args.self.now.device)
+    untouched_keeps g.D.Device.seen g.D.Device.may_leave g.D.Device.moment g.D.Device.left_since c.args.self.now servers
+    batches rest c.args.self.now.device (not_asked g.D.Device.seen g.D.Device.may_leave g.D.Device.moment g.D.Device.left_since
+    c.args.self.now servers batches rest (g.met.D.Device.only_now c.args.self.now.device))
 
 pub split-requires-clause-ends : goal.split-requires-clause-ends
 split-requires-clause-ends g c =
