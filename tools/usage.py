@@ -24,8 +24,7 @@ A coordination service with ZooKeeper's data model and chain replication.
                               memory: MS is 10 to 3600000 (2000), and limits
 ./zk serve --data DIR [--sync batch|never] [--journal MIB] ..
                               stores its state in DIR; with never a power cut may
-                              lose it; begins a part of its journal each MIB (64),
-                              and compacts those before beside the server
+                              lose it; compacts its journal after each MIB (64)
 ./zk node FILE [--self NODE]  runs a server of a chain as a process of its own
 ./zk cluster FILE init|status|retire ..  the log of the nodes (docs/GUIDE.md)
 ./zk call FILE [--client N]   plays calls over the nodes, or those of client N
