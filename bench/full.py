@@ -7,10 +7,13 @@ the memory that the program takes for each node. A server is in memory, or keeps
 
 The second has the seconds to open that folder, and what a lone connection sees that sets one node
 again and again: the median and the longest of its requests. It is alone, or beside writes that make
-the journal grow, which is compacted or not. The last column is the longest wait without the moments
-in which the machine ran nothing on one of its processors (gaps.py).
+the journal grow, which is compacted or not: then most of its parts are gone at the end. The last
+column is the longest wait without the moments in which the machine ran nothing on one of its
+processors (gaps.py).
 """
 import contextlib
+import os
+import shutil
 import statistics
 import sys
 import threading
@@ -111,27 +114,36 @@ def beside(server, load, seconds):
     return found
 
 
+def parts(folder):
+    """How many parts of a journal were begun, and how many are left."""
+    named = [it[8:] for it in os.listdir(folder) if it.startswith("journal.")]
+    numbers = [int(it) for it in named if it.isdigit()]
+    return max(numbers, default=0) + 1, len(numbers) + 1
+
+
 def of_folder(builds, load, nodes, seconds):
     """A folder is filled, opened and compacted."""
     folder = f"{builds.room}/full"
     it = serve.kept(builds, folder, journal=LONG)
     tell_rates(it, *fill(load, it, nodes))
     it.stop()
+    copy = shutil.copytree(folder, f"{folder}-copy")
     it = serve.kept(builds, folder, journal=serve.NEVER)
     print(f"\nopened in {it.opened:.1f} s")
     measuring.head("Requests", "Count", "Median, ms", "Longest, ms", "Less the machine's gaps")
     tell_waits("alone", lambda: waits(it, seconds))
     tell_waits("beside writes", lambda: beside(it, load, 3 * seconds))
     it.stop()
-    it = serve.kept(builds, folder, journal=LONG)
+    it = serve.kept(builds, copy, journal=LONG)
     tell_waits("beside writes and compactions", lambda: beside(it, load, 3 * seconds))
     it.stop()
+    print("\nparts of the journal: {} begun, {} left".format(*parts(copy)))
 
 
 def main():
     words = measuring.parser(__doc__)
     words.add_argument("--nodes", type=int, default=NODES)
-    words.add_argument("--seconds", type=int, default=20)
+    words.add_argument("--seconds", type=int, default=40)
     given = words.parse_args()
     with measuring.builds(given) as builds:
         load = builds.compiled("load", ["bench/load.c"])
